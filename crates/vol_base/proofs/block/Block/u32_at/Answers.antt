@@ -1,0 +1,6 @@
+use Rattle.vol_base.specs.Bytes.{number_at}
+use Rattle.vol_base.proofs.block.Block.u32_at.Goals as goal
+
+pub returns-clause-number : goal.returns-clause-number
+unfolding number_at
+returns-clause-number c = rw c.from.ensures.rest at c.read_u32.ensures
