@@ -1,0 +1,4 @@
+pub mod BlankLaws
+pub mod PlaceLaws
+pub mod StartLaws
+pub mod SuperblockLaws

@@ -1,0 +1,10 @@
+pub mod Blank
+pub mod Edits
+pub mod Fields
+pub mod Journal
+pub mod Places
+pub mod Ranges
+pub mod RegionStarts
+pub mod Regions
+pub mod Sizes
+pub mod Superblock
