@@ -1,0 +1,4 @@
+pub mod Calls
+pub mod MemDisk
+pub mod Prefixes
+pub mod State
