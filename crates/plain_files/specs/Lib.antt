@@ -1,0 +1,4 @@
+pub mod Block
+pub mod Calls
+pub mod History
+pub mod Plain
