@@ -6,7 +6,7 @@ use Rattle.vol_base.specs.declared.plain.PlainCall.{PlainCall}
 use Rattle.vol_base.specs.declared.plain.PlainCall.TheVariants.{Create, Size, Write, Read, Punch, Remove}
 use Rattle.vol_base.specs.declared.plain.PlainReply.{PlainReply}
 use Rattle.vol_base.specs.declared.plain.PlainReply.TheVariants.{Done, Holds, NoFile, Exists, Beyond, TooLong}
-use Rattle.plain_files.specs.Block.{zeros}
+use Rattle.plain_files.specs.Block.{zero_block}
 use Rattle.plain_files.specs.Plain.{Plain, file_of}
 
 -- the file that a call is on
@@ -20,7 +20,7 @@ file_no (Remove file) = file
 
 -- a file that is cut, or grown with zeros, to n blocks
 abbrev pub sized : ℕ → List Block → List Block
-sized n blocks = take n blocks ++ replicate (n - length blocks) zeros
+sized n blocks = take n blocks ++ replicate (n - length blocks) zero_block
 
 -- a reply, and what the file is after it
 abbrev pub Outcome : Type 0
@@ -35,8 +35,8 @@ abbrev pub on_file : ℕ → PlainCall → List Block → Outcome
 on_file limit (Create file) blocks = (Exists, Some blocks)
 on_file limit (Size file n) blocks = if nat_lt limit n then (TooLong, Some blocks) else (Done, Some (sized n blocks))
 on_file limit (Write file index block) blocks = at_block index blocks (Done, Some (slice_set blocks index block))
-on_file limit (Read file index) blocks = at_block index blocks (Holds (slice_index_or blocks index zeros), Some blocks)
-on_file limit (Punch file index) blocks = at_block index blocks (Done, Some (slice_set blocks index zeros))
+on_file limit (Read file index) blocks = at_block index blocks (Holds (slice_index_or blocks index zero_block), Some blocks)
+on_file limit (Punch file index) blocks = at_block index blocks (Done, Some (slice_set blocks index zero_block))
 on_file limit (Remove file) blocks = (Done, None)
 
 -- the outcome of a call on a file that is not there

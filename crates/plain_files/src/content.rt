@@ -1,6 +1,6 @@
 // The blocks of one file.
 ghost use Rattle.std.specs.Prelude.{◌≡◌, ◌<◌, ◌^◌, [], length, nat_lt, if◌then◌else◌, Some, slice_index_or, slice_set, OnOk, OnErr};
-ghost use Rattle.plain_files.specs.Block.{zeros};
+ghost use Rattle.plain_files.specs.Block.{zero_block};
 ghost use Rattle.plain_files.specs.Calls.{sized, at_block};
 
 use std::alloc::Global;
@@ -52,7 +52,7 @@ impl Content {
     pub fn read(&self, index: u32) -> PlainReply
         requires { length self.now < 2 ^ 32 }
         ensures { result
-            ≡ (at_block index self.now (PlainReply.Holds (slice_index_or self.now index zeros), Some self.now)).0 }
+            ≡ (at_block index self.now (PlainReply.Holds (slice_index_or self.now index zero_block), Some self.now)).0 }
     {
         match self.blocks.get(index as usize) {
             Some(block) => PlainReply::Holds(*block),
@@ -85,7 +85,7 @@ impl Content {
 }
 
 pub fn zero_block() -> Block
-    ensures { result ≡ zeros }
+    ensures { result ≡ zero_block }
 {
-    Block([0; 4096])
+    Block::zeros()
 }

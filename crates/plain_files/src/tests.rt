@@ -7,21 +7,15 @@ use crate::{Placed, PlainFiles, replay};
 use std::alloc::Global;
 use std::process::Abort;
 use std::test::Fail;
-use vol_base::{Block, PlainCall, PlainReply};
+use vol_base::{Block, PlainCall, PlainReply, number_block};
 
 /// The block whose numbers are 7.
 fn sevens() -> Block {
-    let mut bytes = [0; 4096];
-    for i in 0..4096usize {
-        if i % 8 == 7 {
-            bytes[i] = 7;
-        }
-    }
-    Block(bytes)
+    number_block(7)
 }
 
 fn zeros() -> Block {
-    Block([0; 4096])
+    Block::zeros()
 }
 
 /// Makes a call that is to get this reply.
