@@ -212,6 +212,7 @@ fn sure_kinds_give_and_take_all(rt: HostRuntime) -> Result<(), Fail> {
     assert_eq!(rt; sink.taken(), b"report".as_slice());
     assert_eq!(rt; write_all(&mut sink, b""), Ok(()));
     assert_eq!(rt; write_all(&mut sink, b"s"), Err(WriteNo::Stuck));
+    assert!(rt; SureSink::new(rt.alloc(), usize::MAX).is_err());
     Ok(())
 }
 
