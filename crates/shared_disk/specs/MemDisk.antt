@@ -1,4 +1,5 @@
 use Rattle.std.specs.Prelude.{◌≡◌, ◌≢◌, ◌↔◌, Contains, Err, Result, ◌++◌, ◌∷◌, [], ℕ, List, Some, length, map, replicate}
+use Rattle.vol_base.specs.Bytes.{zeros}
 use Rattle.vol_base.specs.declared.block.Block.{Block}
 use Rattle.shared_disk.specs.Calls.{next_count}
 use Rattle.shared_disk.specs.State.{State, Told}
@@ -16,7 +17,7 @@ writes_of writes = map (λ w. (w.0, w.1.0)) writes
 
 -- so many blocks of zeros
 unfoldable pub zero_blocks : ℕ → List (List ℕ)
-zero_blocks blocks = replicate blocks (replicate 4096 0)
+zero_blocks blocks = replicate blocks (zeros 4096)
 
 -- what a device in memory is, beside its room: `failing` has the numbers of the calls that are to fail
 pub record Memory : Type 0 where

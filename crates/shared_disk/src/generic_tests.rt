@@ -119,7 +119,7 @@ fn a_device_that_hides_its_content_serves_too(rt: HostRuntime) -> Result<(), Fai
     let key = hidden.register(0)?;
     let block = Block([9; 4096]);
     assert_eq!(rt; write_both(&mut hidden, key, 0, 1, &block), Ok(()));
-    let zeros = Block([0; 4096]);
+    let zeros = Block::zeros();
     assert_eq!(rt;
         copy_over(&mut hidden, key, 1, 2, &zeros),
         Ok(Tested::Swapped)

@@ -41,7 +41,7 @@ impl MemDisk {
         ensures fresh { IfOk result (λ d. memory_of d ≡ fresh (zero_blocks blocks) 0) }
         ensures blocks { IfOk result (λ d. (memory_of d).state.blocks ≡ blocks) }
     {
-        match vec![in alloc; Block([0; 4096]); blocks as usize] {
+        match vec![in alloc; Block::zeros(); blocks as usize] {
             Ok(image) => MemDisk::of_image(alloc, image, 0),
             Err(_) => Err(NoMemory),
         }
@@ -251,7 +251,7 @@ impl Device for MemDisk {
         ensures spare { spare_of self.new ≡ spare_of self.old }
     {
         self.admit(key)?;
-        Ok(self.image[place as usize])
+        Ok(*self.block(place))
     }
 
     fn write(&mut self, key: Key, place: u64, block: &Block) -> Result<(), DiskNo>
@@ -300,8 +300,8 @@ impl Device for MemDisk {
         ensures unspent { result ≢ Ok Tested.Swapped → spare_of self.new ≡ spare_of self.old }
     {
         self.admit(key)?;
-        let found = self.image[place as usize];
-        if !is_same(&found, old) {
+        let found = *self.block(place);
+        if !found.same(old) {
             return Ok(Tested::Found(found));
         }
         self.set_block(place, new)?;
@@ -361,10 +361,4 @@ impl Device for MemDisk {
     ghost keys_named = { λ d. d.named };
 
     ghost counter_fits = { λ d. d.fits };
-}
-
-fn is_same(block: &Block, other: &Block) -> bool
-    ensures { IsTrue result ↔ (block.now ≡ other.now) }
-{
-    block == other
 }
