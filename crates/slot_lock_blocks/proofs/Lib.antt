@@ -1,0 +1,5 @@
+pub mod KeyLaws
+pub mod LockWalk
+pub mod Pieces
+pub mod ReaderWalk
+pub mod SlotWalk
