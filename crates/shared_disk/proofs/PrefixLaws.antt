@@ -184,6 +184,13 @@ Prefixes-ends StandsFor (Some f) None history stretch = absurd stretch
 Prefixes-ends StandsFor (Some f) (Some l) history stretch =
     rw stretch.image (EachFront-ends StandsFor f.image stretch.made history stretch.fronts)
 
+-- a stretch begins where its image stands for some front of the history
+pub Prefixes-starts : {E : Type 0} (StandsFor : List (List ℕ) → List E → Type 0) (first last : Option Told) (history : List E) → Prefixes StandsFor first last history → IfSome first (λ t. (n : ℕ) × StandsFor t.image (take n history))
+unfolding Prefixes image_after
+Prefixes-starts StandsFor None last history stretch = tt
+Prefixes-starts StandsFor (Some f) None history stretch = absurd stretch
+Prefixes-starts StandsFor (Some f) (Some l) history stretch = (stretch.fronts.front 0, stretch.fronts.each 0 (omega arith))
+
 -- what each image stands for, said of no entries
 pub Prefixes-forgets : {E F : Type 0} (StandsFor : List (List ℕ) → List E → Type 0) (Weaker : List (List ℕ) → List F → Type 0) (first last : Option Told) (history : List E) → ((i : List (List ℕ)) (h : List E) → StandsFor i h → Weaker i []) → Prefixes StandsFor first last history → Prefixes Weaker first last []
 unfolding Prefixes
@@ -286,6 +293,13 @@ EachImage-joined P first middle last earlier later = Prefixes-joined {E = ℕ} (
 pub EachImage-ends : (P : List (List ℕ) → Type 0) (first last : Option Told) → EachImage P first last → IfSome last (λ t. P t.image)
 unfolding EachImage
 EachImage-ends P first last stretch = Prefixes-ends {E = ℕ} (λ i _. P i) first last [] stretch
+
+-- the first image is one of them
+pub EachImage-starts : (P : List (List ℕ) → Type 0) (first last : Option Told) → EachImage P first last → IfSome first (λ t. P t.image)
+unfolding EachImage
+EachImage-starts P None last stretch = tt
+EachImage-starts P (Some f) last stretch =
+    let start : (n : ℕ) × P f.image = Prefixes-starts {E = ℕ} (λ i _. P i) (Some f) last [] stretch in start.1
 
 -- each image meets a weaker fact
 pub EachImage-weaker : (P Q : List (List ℕ) → Type 0) (first last : Option Told) → ((i : List (List ℕ)) → P i → Q i) → EachImage P first last → EachImage Q first last

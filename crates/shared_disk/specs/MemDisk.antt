@@ -30,6 +30,7 @@ pub record Memory : Type 0 where
 abbrev pub told_of : MemDisk → Told
 told_of d = record { image = bytes_of d.image.items; writes = writes_of d.writes.items }
 
+-- the device as its calls see it
 abbrev pub memory_of : MemDisk → Memory
 memory_of d = record {
   state = record { blocks = length d.image.items; keys = d.keys.items; counter = d.counter; told = Some (told_of d) };
