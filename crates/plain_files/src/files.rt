@@ -45,7 +45,7 @@ impl PlainFiles {
     pub fn with_limit(alloc: Global, files: u8, limit: u32) -> Result<PlainFiles, NoMemory>
         ensures { IfOk result (λ p. p ≡ no_files files limit) }
     {
-        let mut table = Vec::with_capacity(alloc, usize::from(files)).map_err(|_| NoMemory)?;
+        let mut table = Vec::with_capacity(alloc, usize::from(files))?;
         for _ in 0..files {
             table.push(None).map_err(|_| NoMemory)?;
         }

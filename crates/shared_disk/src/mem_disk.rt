@@ -81,8 +81,8 @@ impl MemDisk {
         ensures same { memory_of self.new ≡ memory_of self.old }
     {
         let more = n as usize;
-        self.writes.reserve(more).map_err(|_| NoMemory)?;
-        self.keys.reserve(more).map_err(|_| NoMemory)?;
+        self.writes.reserve(more)?;
+        self.keys.reserve(more)?;
         self.spare = self.spare.max(n);
         Ok(())
     }

@@ -1,5 +1,8 @@
 // The calls on plain files, by number, and their replies.
+ghost use Rattle.std.specs.Prelude.{⊤};
+
 use crate::block::Block;
+use std::alloc::AllocError;
 
 /// A host of a volume, from 0; a volume has at most 16.
 pub type HostNo = u8;
@@ -16,6 +19,14 @@ pub type SlotNo = u32;
 /// The answer of a call that was refused memory.
 #[derive(Clone, Copy, Debug, PartialEq, Eq)]
 pub struct NoMemory;
+
+impl From<AllocError> for NoMemory {
+    ghost from_gives = { λ _ _. ⊤ };
+
+    fn from(_: AllocError) -> NoMemory {
+        NoMemory
+    }
+}
 
 /// A call on plain files. `Size` gives the new length in blocks; an index counts blocks from 0.
 #[derive(Clone, Copy, Debug, PartialEq, Eq)]

@@ -1,5 +1,5 @@
 // A run that several hosts move forward, one turn at a time.
-ghost use Rattle.std.specs.Prelude.{◌≡◌, ◌<◌, ◌≤◌, ◌↔◌, ◌++◌, ℕ, List, Bool, false, Option, length, IfOk, IfSome, IfNone};
+ghost use Rattle.std.specs.Prelude.{◌≡◌, ◌<◌, ◌≤◌, ◌↔◌, ◌++◌, ℕ, List, Bool, false, Option, None, length, IfOk, IfSome, IfNone};
 ghost use Rattle.vol_base.specs.Grows.{BeginsWith};
 ghost use Rattle.vol_base.specs.Turned.{Lowers, Stays};
 ghost use Rattle.vol_base.specs.declared.block.Block.{Block};
@@ -58,6 +58,7 @@ pub trait Turns: Counted {
         ensures began { Self.began self.new ≡ Self.began self.old }
         ensures entries { Self.listed self.new ≡ Self.listed self.old }
         ensures lowers { IfSome (awaited self.old host) (λ _. left self.new < left self.old) }
+        ensures supplied { awaited self.new host ≡ None }
         ensures stays { IfNone (awaited self.old host) (self.new ≡ self.old) };
 
     /// How many steps are left at most; 0 exactly where no host has a command left in the phase.

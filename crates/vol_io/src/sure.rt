@@ -81,7 +81,7 @@ impl SureSink {
     pub fn new(alloc: Global, room: usize) -> Result<SureSink, NoMemory>
         ensures { IfOk result (λ sink. sink ≡ record { taken = []; room = room; refusals = 0 }) }
     {
-        let bytes = Vec::with_capacity(alloc, room).map_err(|_| NoMemory)?;
+        let bytes = Vec::with_capacity(alloc, room)?;
         Ok(SureSink {
             bytes,
             room,
