@@ -1,7 +1,9 @@
 pub mod Blank
+pub mod EditLaws
 pub mod Edits
 pub mod Fields
 pub mod Journal
+pub mod JournalLaws
 pub mod Places
 pub mod Ranges
 pub mod RegionStarts

@@ -1,0 +1,10 @@
+pub mod Checks
+pub mod Entries
+pub mod Grammar
+pub mod Numerals
+pub mod Printed
+pub mod Ranges
+pub mod Texts
+pub mod Verbs
+pub mod VolumeLine
+pub mod Workloads

@@ -1,0 +1,22 @@
+//! The workload language both ways: a text is read to its workload or to its first faulty line, and a
+//! workload is written as its text.
+#![tactic(auto)]
+
+mod cause;
+mod entry;
+mod line;
+mod number;
+mod order;
+mod parsing;
+mod printing;
+mod verb;
+mod volume;
+mod words;
+
+pub use cause::{ParseNo, WorkloadNo};
+pub use line::{Line, Lines, Workload};
+pub use parsing::parse;
+pub use printing::print;
+
+#[cfg(test)]
+mod tests;
