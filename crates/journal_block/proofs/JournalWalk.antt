@@ -1,6 +1,6 @@
 -- How a journal is written, and read edit by edit.
-use Rattle.std.proofs.Common.{◌≡◌, ◌≢◌, ◌<◌, ◌≤◌, ◌+◌, ◌-◌, ◌*◌, ◌^◌, ◌⊎◌, ℕ, zero, suc, List, [], ◌∷◌, ◌++◌, Some, None, true, false, length, take, refl, sym, subst, ap, ◌∙◌, inl, inr, arith, length-append, length-take-le}
-use Rattle.std.specs.Prelude.{All, IsTrue, codes, get_or, slice_get, Option}
+use Rattle.std.proofs.Common.{◌≡◌, ◌<◌, ◌≤◌, ◌+◌, ◌-◌, ◌*◌, ◌^◌, ◌⊎◌, ℕ, List, [], ◌∷◌, ◌++◌, Some, None, true, false, length, take, refl, sym, subst, ap, ◌∙◌, inl, inr, arith, length-append, length-take-le}
+use Rattle.std.specs.Prelude.{All, IsTrue, codes, get_or, slice_get}
 use Rattle.std.specs.List.{flat_map}
 use Rattle.std.proofs.lemmas.Option.{same_Some, slice_get-get_or}
 use Rattle.std.proofs.lemmas.List.{take_all, take_more}
@@ -10,7 +10,7 @@ use Rattle.vol_layout.specs.declared.geometry.Geometry.{Geometry}
 use Rattle.vol_layout.specs.declared.field.Edit.{Edit}
 use Rattle.vol_layout.specs.declared.field.Field.{Field}
 use Rattle.vol_layout.specs.Ranges.{IsGeometry}
-use Rattle.vol_layout.specs.Edits.{AreEdits, IsEdit, touches}
+use Rattle.vol_layout.specs.Edits.{IsEdit, touches}
 use Rattle.vol_layout.specs.EditLaws.{other_field-is, touches-append, touches-at, touches-take}
 use Rattle.vol_layout.specs.Journal.{SpellsJournal, edit_at, edit_bytes, journal_bytes}
 use Rattle.vol_layout.specs.JournalLaws.{edit_at-spelled, journal_count-spelled, journal_key-spelled, length-edits}

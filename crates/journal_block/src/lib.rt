@@ -8,3 +8,6 @@ mod record;
 
 pub use journal::{read_journal, write_journal};
 pub use record::Record;
+
+#[cfg(test)]
+mod tests;

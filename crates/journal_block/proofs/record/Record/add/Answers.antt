@@ -1,4 +1,4 @@
-use Rattle.std.proofs.Common.{◌≡◌, ◌≤◌, ◌++◌, List, [], ◌∷◌, ap, sym, ◌∙◌, subst, arith, length-set}
+use Rattle.std.proofs.Common.{◌≤◌, ap, sym, ◌∙◌, subst, arith, length-set}
 use Rattle.std.proofs.lemmas.List.{take_more_set}
 use Rattle.vol_layout.specs.Edits.{AreApart, touches}
 use Rattle.vol_layout.specs.EditLaws.{AreApart-push}

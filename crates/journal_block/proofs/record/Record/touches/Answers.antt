@@ -1,4 +1,4 @@
-use Rattle.std.proofs.Common.{◌≡◌, sym, ap, ◌∙◌, List}
+use Rattle.std.proofs.Common.{sym, ap, ◌∙◌, List}
 use Rattle.vol_layout.specs.declared.field.Edit.{Edit}
 use Rattle.vol_layout.specs.Edits.{touches}
 use Rattle.journal_block.proofs.JournalWalk.{found, not_yet}
