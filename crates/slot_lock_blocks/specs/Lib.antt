@@ -1,3 +1,4 @@
+pub mod FreeLaws
 pub mod HeaderLaws
 pub mod Keys
 pub mod LockLaws

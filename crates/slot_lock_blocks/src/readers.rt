@@ -69,7 +69,7 @@ impl Readers {
     }
 
     /// Writes the 16 keys, each of eight bytes.
-    pub fn push_to(&self, draft: &mut Draft)
+    pub(crate) fn push_to(&self, draft: &mut Draft)
         requires { length draft.old + 128 ≤ 4096 }
         ensures keys { draft.new ≡ draft.old ++ flat_map (bytes_of 8) self.now }
         ensures long { length draft.new ≡ length draft.old + 128 }
@@ -80,7 +80,7 @@ impl Readers {
     }
 
     /// What the places of a lock's readers hold: the readers whose keys stand there, if any.
-    pub fn candidate(block: &Block) -> Readers
+    pub(crate) fn candidate(block: &Block) -> Readers
         ensures stand { (readers : List ℕ) → AreReaders readers → StandIn block.now.0 readers → result ≡ readers }
         ensures readers { AreReaders result }
     {

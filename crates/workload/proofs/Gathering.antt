@@ -1,5 +1,5 @@
 -- The lines of a workload that are read one after the other.
-use Rattle.std.proofs.Common.{◌≡◌, ◌+◌, ℕ, List, [], ◌∷◌, ◌++◌, Result, Ok, Err, length, refl, sym, ap, ◌∙◌, arith, append-nil, append_assoc, zero-add}
+use Rattle.std.proofs.Common.{◌≡◌, ◌+◌, ℕ, List, [], ◌∷◌, ◌++◌, Result, Ok, Err, refl, sym, ap, ◌∙◌, arith, append-nil, append_assoc}
 use Rattle.vol_layout.specs.declared.geometry.Geometry.{Geometry}
 use Rattle.workload.specs.declared.cause.WorkloadNo.{WorkloadNo}
 use Rattle.workload.specs.declared.entry.Entry.{Entry}
@@ -8,7 +8,7 @@ use Rattle.workload.specs.declared.line.Line.{Line}
 use Rattle.workload.specs.declared.line.Workload.{Workload}
 use Rattle.workload.specs.Checks.{◌>>=◌}
 use Rattle.workload.specs.Entries.{entry_of}
-use Rattle.workload.specs.Grammar.{Refusal, at_line, barriers, commands_in, entries_of, line_of, numbered, phase_behind, workload_behind, workload_with}
+use Rattle.workload.specs.Grammar.{Refusal, barriers, commands_in, entries_of, line_of, numbered, phase_behind, workload_behind, workload_with}
 
 -- the workload of the lines so far, and of the entries behind them
 abbrev pub gathered_with : Geometry → List Line → ℕ → ℕ → List Entry → Workload

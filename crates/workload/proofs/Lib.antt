@@ -1,4 +1,5 @@
 pub mod CheckLaws
+pub mod Completeness
 pub mod Gathering
 pub mod LineEnds
 pub mod NumberLaws
@@ -6,3 +7,4 @@ pub mod ParseLaws
 pub mod Parts
 pub mod Soundness
 pub mod Spelling
+pub mod Whole

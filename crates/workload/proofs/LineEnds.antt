@@ -1,5 +1,5 @@
 -- Lines that are written one behind the other, and the lines of a text that ends with LF.
-use Rattle.std.proofs.Common.{◌≡◌, ◌<◌, ◌≤◌, ◌+◌, ◌-◌, ◌==◌, ℕ, suc, zero, Bool, true, false, cond, List, [], ◌∷◌, ◌++◌, Ok, length, drop, replicate, refl, sym, ap, ◌∙◌, arith, append-nil, append_assoc}
+use Rattle.std.proofs.Common.{◌≡◌, ◌≤◌, ◌+◌, ◌-◌, ◌==◌, ℕ, suc, zero, true, false, cond, List, [], ◌∷◌, ◌++◌, Ok, refl, sym, ap, ◌∙◌, arith, append-nil, append_assoc}
 use Rattle.std.specs.Prelude.{codes}
 use Rattle.std.specs.List.{flat_map, join_with_byte, onto_first, slice_split}
 use Rattle.std.proofs.lemmas.List.Concat.{flat_map-append}
@@ -7,7 +7,7 @@ use Rattle.std.proofs.lemmas.List.Splits.{join_with_byte-slice_split}
 use Rattle.workload.specs.declared.line.Line.{Line}
 use Rattle.workload.specs.declared.line.Workload.{Workload}
 use Rattle.workload.specs.Grammar.{workload_of}
-use Rattle.workload.specs.Printed.{IsPrintable, barrier_lines, command_text, ended, later_lines, text_lines, text_of}
+use Rattle.workload.specs.Printed.{IsPrintable, barrier_lines, command_text, ended, later_lines, text_of}
 use Rattle.workload.specs.Texts.{ended_parts, lines_of}
 use Rattle.workload.proofs.Spelling.{workload_of-text}
 

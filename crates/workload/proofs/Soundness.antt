@@ -1,7 +1,7 @@
 -- A text in the grammar has a workload in range.
-use Rattle.std.proofs.Common.{◌≡◌, ◌<◌, ◌≤◌, ◌+◌, ◌-◌, ◌^◌, ◌&&◌, ◌||◌, ◌==◌, ℕ, suc, Bool, true, false, cond, List, [], ◌∷◌, ◌++◌, Option, Some, Result, Ok, Err, length, slice_index, refl, sym, ap, subst, ◌∙◌, arith}
-use Rattle.std.specs.Prelude.{All, IsTrue, codes, nat_le, nat_lt, not}
-use Rattle.std.specs.Option.{ok_or, option_map}
+use Rattle.std.proofs.Common.{◌≡◌, ◌<◌, ◌≤◌, ◌+◌, ◌^◌, ◌&&◌, ◌||◌, ◌==◌, ℕ, Bool, true, false, cond, List, [], ◌∷◌, Some, Result, Ok, Err, length, slice_index, sym, subst, ◌∙◌, arith}
+use Rattle.std.specs.Prelude.{All, codes, nat_le, nat_lt, not}
+use Rattle.std.specs.Option.{ok_or}
 use Rattle.std.specs.Str.{bytes_eq}
 use Rattle.std.specs.Str.Parse.{digits_value}
 use Rattle.std.proofs.lemmas.Bool.{and_parts, eqb-true, ltb-true}
@@ -20,7 +20,7 @@ use Rattle.workload.specs.declared.line.Workload.{Workload}
 use Rattle.workload.specs.declared.verb.Verb.{Verb}
 use Rattle.workload.specs.Checks.{◌>>=◌, checked}
 use Rattle.workload.specs.Entries.{barrier_of, entry_of, entry_of_words, most_commands, order, order_of_arguments, order_of_words}
-use Rattle.workload.specs.Grammar.{Refusal, at_line, barriers, commands_in, entries_of, line_of, most_bytes, numbered, phase_behind, workload_behind, workload_of, workload_of_lines, workload_with}
+use Rattle.workload.specs.Grammar.{Refusal, at_line, barriers, commands_in, entries_of, most_bytes, numbered, workload_behind, workload_of, workload_of_lines, workload_with}
 use Rattle.workload.specs.Numerals.{number_of, numbers_of}
 use Rattle.workload.specs.Ranges.{is_between, is_in_range, is_own}
 use Rattle.workload.specs.Texts.{is_shaped, lines_of, words_of}

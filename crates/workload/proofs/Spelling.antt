@@ -1,8 +1,8 @@
 -- A text in the grammar has the lines that its workload is written as.
-use Rattle.std.proofs.Common.{◌≡◌, ◌<◌, ◌≤◌, ◌+◌, ◌-◌, ◌&&◌, ◌||◌, ◌⊎◌, ◌==◌, ℕ, suc, zero, Bool, true, false, cond, List, [], ◌∷◌, ◌++◌, Option, Some, None, Result, Ok, Err, length, slice_index, map, replicate, refl, sym, ap, ◌∙◌, inl, inr, arith, append-nil, append_assoc}
+use Rattle.std.proofs.Common.{◌≡◌, ◌≤◌, ◌+◌, ◌-◌, ◌&&◌, ◌||◌, ◌⊎◌, ◌==◌, ℕ, suc, Bool, true, false, cond, List, [], ◌∷◌, ◌++◌, Some, Result, Ok, Err, length, slice_index, map, refl, sym, ap, ◌∙◌, inl, inr, arith, append-nil}
 use Rattle.std.specs.Prelude.{codes, decimal, nat_le, nat_lt, not}
-use Rattle.std.specs.List.{find, flat_map, join_with_byte, slice_split, onto_first}
-use Rattle.std.specs.Option.{ok_or, option_and_then, option_map}
+use Rattle.std.specs.List.{find, join_with_byte}
+use Rattle.std.specs.Option.{ok_or}
 use Rattle.std.specs.Str.{bytes_eq}
 use Rattle.std.proofs.lemmas.List.Splits.{join_with_byte-slice_split}
 use Rattle.std.proofs.lemmas.Option.{option_and_then_some, same_Some}
@@ -44,7 +44,7 @@ numbers_of-decimal (word ∷ words) ns e =
     ∙ ap (λ (ws : List (List ℕ)). decimal n ∷ ws) (numbers_of-decimal words more.0 more.1)
     ∙ ap (map decimal) more.2)
 
-length-map_decimal : (ns : List ℕ) → length (map decimal ns) ≡ length ns
+pub length-map_decimal : (ns : List ℕ) → length (map decimal ns) ≡ length ns
 length-map_decimal [] = refl
 length-map_decimal (n ∷ ns) = ap suc (length-map_decimal ns)
 

@@ -1,5 +1,5 @@
 -- The one text of a workload.
-use Rattle.std.specs.Prelude.{◌≡◌, ◌-◌, ℕ, List, [], ◌∷◌, ◌++◌, Ok, codes, decimal, map, replicate}
+use Rattle.std.specs.Prelude.{◌≡◌, ◌-◌, ℕ, List, [], ◌∷◌, ◌++◌, Ok, codes, decimal, replicate}
 use Rattle.std.specs.List.{flat_map}
 use Rattle.vol_layout.specs.declared.geometry.Geometry.{Geometry}
 use Rattle.vol_layout.specs.Superblock.{written_numbers}

@@ -1,7 +1,7 @@
 -- Which numbers a geometry and a command may have.
 use Rattle.std.specs.Prelude.{◌==◌, ◌&&◌, ◌^◌, ℕ, Bool, true, false, nat_le, nat_lt}
 use Rattle.vol_base.specs.declared.command.Command.{Command}
-use Rattle.vol_base.specs.declared.command.Command.TheVariants.{Join, Leave, Create, Size, Write, Read, Punch, Remove, Close, Log, Scan, Merge, Serve, Collect, Beat, Look, Recover, Die, Scribble}
+use Rattle.vol_base.specs.declared.command.Command.TheVariants.{Create, Size, Write, Read, Punch, Remove, Close, Scan, Collect, Look, Recover, Die, Scribble}
 use Rattle.vol_layout.specs.declared.geometry.Geometry.{Geometry}
 
 -- the number is from low to high

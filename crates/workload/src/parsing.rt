@@ -1,6 +1,6 @@
 // Reading a text.
 ghost use Rattle.std.specs.Prelude.{◌≡◌, ◌<◌, ◌≤◌, ◌+◌, ◌^◌, ◌++◌, ℕ, Ok, Err, IfOk, OnOk, length, vec_len};
-ghost use Rattle.workload.specs.Grammar.{Gives, commands_in, line_of, phase_behind, workload_behind, workload_of};
+ghost use Rattle.workload.specs.Grammar.{Gives, commands_in, line_of, most_bytes, phase_behind, workload_behind, workload_of};
 ghost use Rattle.workload.specs.Printed.{text_lines};
 ghost use Rattle.workload.specs.Texts.{lines_of};
 ghost use Rattle.workload.specs.Workloads.{IsWorkload};
@@ -24,6 +24,9 @@ pub fn parse(alloc: Global, text: &[u8]) -> Result<Workload, ParseNo>
     // The text's lines are those that the workload is written as.
     ensures written { IfOk result (λ workload. lines_of text.now ≡ text_lines workload) }
     ensures in_range { IfOk result IsWorkload }
+    // Each text of a workload in range is read as it.
+    ensures complete { (workload : Workload) → IsWorkload workload → lines_of text.now ≡ text_lines workload
+        → length text.now ≤ most_bytes → Gives (Ok workload) result }
     ensures refused { (line : ℕ) (cause : WorkloadNo) → result ≡ Err (ParseNo.Refused line cause) → workload_of text.now ≡ Err (line, cause) }
 {
     read(alloc, text)

@@ -1,9 +1,10 @@
 // Writing a workload.
-ghost use Rattle.std.specs.Prelude.{◌≡◌, ◌-◌, ◌∷◌, ◌++◌, ℕ, List, [], Ok, IfOk, OnOk, codes, decimal, string_bytes};
+ghost use Rattle.std.specs.Prelude.{◌≡◌, ◌≤◌, ◌-◌, ◌∷◌, ◌++◌, ℕ, List, [], Ok, IfOk, OnOk, codes, decimal, length, string_bytes};
 ghost use Rattle.std.specs.List.{flat_map};
-ghost use Rattle.workload.specs.Grammar.{workload_of};
+ghost use Rattle.workload.specs.Grammar.{most_bytes, workload_of};
 ghost use Rattle.workload.specs.Printed.{IsPrintable, barrier_lines, command_text, ended, later_lines, text_of, volume_text};
 ghost use Rattle.workload.specs.Verbs.{arguments};
+ghost use Rattle.workload.specs.Workloads.{IsWorkload};
 
 use crate::line::{Line, Workload};
 use crate::verb::Verb;
@@ -18,6 +19,9 @@ pub fn print(alloc: Global, workload: &Workload) -> Result<Vec<u8>, NoMemory>
     // It is that text itself.
     ensures same { IfOk result (λ bytes. (front : List ℕ) → workload_of (front ++ 10 ∷ []) ≡ Ok workload.now → bytes.items ≡ front ++ 10 ∷ []) }
     ensures reads { IfOk result (λ bytes. IsPrintable workload.now → workload_of bytes.items ≡ Ok workload.now) }
+
+    // So does each workload in range whose text is not too long.
+    ensures in_range { IfOk result (λ bytes. IsWorkload workload.now → length bytes.items ≤ most_bytes → workload_of bytes.items ≡ Ok workload.now) }
 {
     written(alloc, workload)
 }

@@ -1,5 +1,4 @@
-use Rattle.std.proofs.Common.{sym, ◌∙◌, ap}
-use Rattle.std.specs.Result.{result_ok}
+use Rattle.std.proofs.Common.{sym, ◌∙◌}
 use Rattle.workload.proofs.NumberLaws.{number_of-numeral, number_of-other, numeral_text}
 use Rattle.workload.proofs.number.read_number.Goals as goal
 

@@ -1,4 +1,4 @@
-use Rattle.std.proofs.Common.{◌++◌, ◌∷◌, [], ℕ, List, Option, Bor, length, sym, ap, ◌∙◌, arith, length-append}
+use Rattle.std.proofs.Common.{◌∷◌, [], ℕ, List, Option, Bor, length, sym, ap, ◌∙◌, arith, length-append}
 use Rattle.std.specs.Option.{option_copied}
 use Rattle.workload.specs.Numerals.{numbers_of}
 use Rattle.workload.specs.Texts.{words_left}

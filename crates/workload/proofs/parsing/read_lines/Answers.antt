@@ -1,7 +1,7 @@
-use Rattle.std.proofs.Common.{◌≡◌, ◌+◌, ◌++◌, ◌∷◌, [], ℕ, List, Ok, Err, length, sym, ap, ◌∙◌, arith, vec_len}
+use Rattle.std.proofs.Common.{◌+◌, ◌++◌, [], ℕ, List, sym, ap, ◌∙◌, arith, vec_len}
 use Rattle.workload.specs.declared.line.Line.{Line}
 use Rattle.workload.specs.Entries.{entry_of}
-use Rattle.workload.specs.Grammar.{commands_in, entries_of, line_of, workload_behind}
+use Rattle.workload.specs.Grammar.{commands_in, entries_of, line_of}
 use Rattle.workload.specs.Texts.{lines_of}
 use Rattle.workload.proofs.Gathering.{gathered, gathered-begin, gathered-end, gathered-fault, gathered-more}
 use Rattle.workload.proofs.parsing.read_lines.Goals as goal
