@@ -1,5 +1,5 @@
 //! The workload language both ways: a text is read to its workload or to its first faulty line, and a
-//! workload is written as its text.
+//! workload is written as its text. Texts of other crates write their numbers as it does.
 #![tactic(auto)]
 
 mod cause;
@@ -16,7 +16,7 @@ mod words;
 pub use cause::{ParseNo, WorkloadNo};
 pub use line::{Line, Lines, Workload};
 pub use parsing::parse;
-pub use printing::print;
+pub use printing::{print, write_numbers};
 
 #[cfg(test)]
 mod tests;

@@ -121,8 +121,8 @@ fn write_arguments(text: &mut String, command: &Command) -> Result<(), AllocErro
     }
 }
 
-// The numbers, with a space before each.
-fn write_numbers(text: &mut String, numbers: &[u64]) -> Result<(), AllocError>
+/// Adds the numbers to a text, with a space before each. After an `Err` a part of them may stand there.
+pub fn write_numbers(text: &mut String, numbers: &[u64]) -> Result<(), AllocError>
     ensures { OnOk result (string_bytes text.new ≡ string_bytes text.old ++ flat_map (λ n. 32 ∷ decimal n) numbers.now) }
 {
     for number in numbers {

@@ -1,5 +1,5 @@
 // Texts and their first causes, and workloads that are written and read again.
-use crate::{Line, Lines, ParseNo, Workload, WorkloadNo, parse, print};
+use crate::{Line, Lines, ParseNo, Workload, WorkloadNo, parse, print, write_numbers};
 use std::alloc::{AllocError, Global};
 use vol_base::Command;
 
@@ -199,4 +199,13 @@ fn lines_have_their_numbers_and_phases(rt: HostRuntime) {
         }
         Err(_) => assert!(rt; false),
     }
+}
+
+#[test]
+fn numbers_stand_behind_a_text(rt: HostRuntime) {
+    let word = String::from_str(rt.alloc(), "beyond");
+    assert!(rt; word.is_ok());
+    let mut text = word.unwrap();
+    assert!(rt; write_numbers(&mut text, &[0, u64::MAX]).is_ok());
+    assert!(rt; text.as_str() == "beyond 0 18446744073709551615");
 }

@@ -1,0 +1,4 @@
+pub mod Answers
+pub mod ContentLaws
+pub mod Contents
+pub mod Reports

@@ -1,0 +1,3 @@
+pub mod Keeps
+pub mod Parts
+pub mod SeatLists

@@ -1,0 +1,4 @@
+pub mod Follows
+pub mod Rule
+pub mod Steps
+pub mod Views
