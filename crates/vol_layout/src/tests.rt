@@ -195,3 +195,31 @@ fn numbers_have_their_bounds(rt: HostRuntime) {
         assert_eq!(rt; is_edit(numbers, field, number), want, "{field:?} {number}");
     }
 }
+
+#[test]
+fn sizes_follow_from_the_geometry(rt: HostRuntime) {
+    let g = geometry([2, 4, 1, 1, 4, 1, 2]);
+    if g.is_in_range() {
+        assert_eq!(rt; g.limit(), 2016);
+        assert_eq!(rt; g.data_blocks(), 1008);
+        assert_eq!(rt; g.arena_slots(), 1008);
+        assert_eq!(rt; g.file_tables(), 8);
+        assert_eq!(rt; g.references(), 9072);
+        assert_eq!(rt; g.log_entries(), 126);
+    }
+}
+
+#[test]
+fn fields_stand_in_tables(rt: HostRuntime) {
+    let g = geometry([2, 4, 1, 1, 4, 1, 2]);
+    let pointer = Field::Pointer(3, 1010);
+    assert_eq!(rt; pointer.entry(), Some(2));
+    assert_eq!(rt; Field::Head(3).entry(), None);
+    assert_eq!(rt; Table::More(3, 1).magic(), *b"DEDEFILE");
+    if g.is_in_range() && g.has_field(&pointer) {
+        assert!(rt; g.allows(&pointer, 1008));
+        assert_eq!(rt; g.table_of(&pointer), Table::More(3, 1));
+        assert_eq!(rt; g.resource_of(&pointer), Resource::File(3));
+        assert_eq!(rt; g.pointer_at(3, 1010), (Table::More(3, 1), 2));
+    }
+}
