@@ -1,24 +1,15 @@
 -- A free slot and a free lock are their magic and zeros.
-use Rattle.std.proofs.Common.{◌≡◌, ◌+◌, ◌*◌, ℕ, zero, suc, List, ◌++◌, replicate, refl, ap, ◌∙◌, arith, append_assoc}
+use Rattle.std.proofs.Common.{◌≡◌, ◌+◌, ◌*◌, ℕ, zero, suc, List, ◌++◌, replicate, refl, ap, ◌∙◌, arith}
 use Rattle.std.specs.Prelude.{codes}
 use Rattle.std.specs.List.{flat_map}
 use Rattle.vol_base.specs.Bytes.{bytes_of, zeros}
-use Rattle.vol_base.specs.BytesLaws.{zeros-append}
+use Rattle.vol_base.specs.BytesLaws.{more_zeros, no_number, zeros-append}
 use Rattle.slot_lock_blocks.specs.declared.lock.LockWord.TheVariants as words
 use Rattle.slot_lock_blocks.specs.declared.slot.Slot.TheVariants as slots
 use Rattle.slot_lock_blocks.specs.Keys.{header_bytes}
 use Rattle.slot_lock_blocks.specs.LockWords.{lock_bytes}
 use Rattle.slot_lock_blocks.specs.ReaderKeys.{nobody}
 use Rattle.slot_lock_blocks.specs.Slots.{slot_bytes}
-
-no_number : (n : ℕ) → n ≡ 0 → (bytes_of 4 n ≡ zeros 4) × (bytes_of 8 n ≡ zeros 8)
-unfolding bytes_of zeros
-no_number n e = rw e (refl, refl)
-
--- zeros behind zeros
-more_zeros : (front rest : List ℕ) (m n k : ℕ) → rest ≡ zeros n → m + n ≡ k → (front ++ zeros m) ++ rest ≡ front ++ zeros k
-more_zeros front rest m n k is all =
-    append_assoc front (zeros m) rest ∙ ap (λ (xs : List ℕ). front ++ (zeros m ++ xs)) is ∙ ap (λ (xs : List ℕ). front ++ xs) (zeros-append m n ∙ ap zeros all)
 
 free_header : (magic : List ℕ) → header_bytes magic 0 0 ≡ magic ++ zeros 16
 free_header magic =

@@ -1,5 +1,5 @@
 -- What a number in bytes reads as, whatever stands before and behind it.
-use Rattle.std.proofs.Common.{replicate, refl, ◌≡◌, ◌<◌, ◌≤◌, ◌+◌, ◌-◌, ◌^◌, ℕ, zero, suc, List, [], ◌++◌, length, get_or, take, drop, sym, ap, ◌∙◌, inl, inr, arith, length-append, length-drop}
+use Rattle.std.proofs.Common.{replicate, refl, ◌≡◌, ◌<◌, ◌≤◌, ◌+◌, ◌-◌, ◌^◌, ℕ, zero, suc, List, [], ◌++◌, length, get_or, take, drop, sym, ap, ◌∙◌, inl, inr, arith, append_assoc, length-append, length-drop}
 use Rattle.std.specs.Prelude.{All}
 use Rattle.std.proofs.lemmas.Bool.{cases_lt}
 use Rattle.std.proofs.lemmas.List.{length-replicate, drop-append-le, drop_at, drop-drop, drop-take, get_or_past, take-replicate, drop-replicate, replicate-append-replicate}
@@ -81,6 +81,16 @@ drop-zeros m n = drop-replicate m n 0
 pub zeros-append : (m n : ℕ) → zeros m ++ zeros n ≡ zeros (m + n)
 unfolding zeros
 zeros-append m n = replicate-append-replicate m n 0
+
+-- zeros behind zeros
+pub more_zeros : (front rest : List ℕ) (m n k : ℕ) → rest ≡ zeros n → m + n ≡ k → (front ++ zeros m) ++ rest ≡ front ++ zeros k
+more_zeros front rest m n k is all =
+    append_assoc front (zeros m) rest ∙ ap (λ (xs : List ℕ). front ++ (zeros m ++ xs)) is ∙ ap (λ (xs : List ℕ). front ++ xs) (zeros-append m n ∙ ap zeros all)
+
+-- the bytes of 0, of four and of eight
+pub no_number : (n : ℕ) → n ≡ 0 → (bytes_of 4 n ≡ zeros 4) × (bytes_of 8 n ≡ zeros 8)
+unfolding bytes_of zeros
+no_number n e = rw e (refl, refl)
 
 slice_index-replicate : (i k : ℕ) → get_or {A = ℕ} (replicate k 0) i 0 ≡ 0
 slice_index-replicate i zero = refl

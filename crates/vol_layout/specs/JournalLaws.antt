@@ -4,7 +4,7 @@ use Rattle.std.specs.Prelude.{All, codes, slice_get}
 use Rattle.std.specs.List.{flat_map, range_with_len}
 use Rattle.std.proofs.lemmas.Option.{get_or_from_slice_get, slice_get_within}
 use Rattle.vol_base.specs.Bytes.{bytes_of, number_at, u32_at, u64_at, zeros}
-use Rattle.vol_base.specs.BytesLaws.{length-bytes_of, length-zeros, number_at-append, number_at-last, number_at-written, zeros-append}
+use Rattle.vol_base.specs.BytesLaws.{length-bytes_of, length-zeros, more_zeros, no_number, number_at-append, number_at-last, number_at-written}
 use Rattle.vol_base.specs.RowLaws.{number_at-row, length-row}
 use Rattle.vol_layout.specs.declared.geometry.Geometry.{Geometry}
 use Rattle.vol_layout.specs.declared.field.Field.{Field}
@@ -169,15 +169,6 @@ edits_of-spelled g bytes key es geometry h =
     ap (λ (n : ℕ). map (λ k. edit_at bytes (64 + 16 * k)) (range_with_len 0 n)) (journal_count-spelled g bytes key es h)
     ∙ rebuilt (λ k. edit_at bytes (64 + 16 * k)) 0 es (λ k e is. let same : 0 + k ≡ k = omega arith in ap (λ (j : ℕ). edit_at bytes (64 + 16 * j)) same ∙ edit_at-spelled g bytes key es k e geometry h is)
 
-no_numbers : (n : ℕ) → n ≡ 0 → (bytes_of 4 n ≡ zeros 4) × (bytes_of 8 n ≡ zeros 8)
-unfolding bytes_of zeros
-no_numbers n e = rw e (refl, refl)
-
--- zeros behind zeros
-more_zeros : (front rest : List ℕ) (m n k : ℕ) → rest ≡ zeros n → m + n ≡ k → (front ++ zeros m) ++ rest ≡ front ++ zeros k
-more_zeros front rest m n k is all =
-    append_assoc front (zeros m) rest ∙ ap (λ (xs : List ℕ). front ++ (zeros m ++ xs)) is ∙ ap (λ (xs : List ℕ). front ++ xs) (zeros-append m n ∙ ap zeros all)
-
 empty_header : (front four eight : List ℕ) → four ≡ zeros 4 → eight ≡ zeros 8 → front ++ four ++ zeros 4 ++ eight ++ zeros 40 ≡ front ++ zeros 56
 empty_header front four eight f e =
     rw (f, e, more_zeros front (zeros 4) 4 4 8 refl refl, more_zeros front (zeros 8) 8 8 16 refl refl) (more_zeros front (zeros 40) 16 40 56 refl refl)
@@ -187,6 +178,6 @@ pub empty_journal : journal_bytes 0 [] ≡ codes "DEDEJRNL" ++ zeros 4088
 unfolding journal_bytes
 empty_journal =
     let front = codes "DEDEJRNL" in
-    ap (λ (xs : List ℕ). xs ++ [] ++ zeros 4032) (empty_header front (bytes_of 4 0) (bytes_of 8 0) (no_numbers 0 refl).0 (no_numbers 0 refl).1)
+    ap (λ (xs : List ℕ). xs ++ [] ++ zeros 4032) (empty_header front (bytes_of 4 0) (bytes_of 8 0) (no_number 0 refl).0 (no_number 0 refl).1)
     ∙ ap (λ (xs : List ℕ). xs ++ zeros 4032) (append-nil (front ++ zeros 56))
     ∙ more_zeros front (zeros 4032) 56 4032 4088 refl refl
