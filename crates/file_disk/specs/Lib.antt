@@ -1,0 +1,2 @@
+pub mod StoredDisk
+pub mod VolumeFile

@@ -1,0 +1,9 @@
+pub mod Order
+pub mod Sites
+pub mod Lists
+pub mod Faults
+pub mod ListLaws
+pub mod AgreeLaws
+pub mod ValidityLaws
+pub mod Texts
+pub mod UniqueLaws
