@@ -1,0 +1,13 @@
+mod CountLaws
+mod HoldLaws
+mod JournalReads
+mod PassedLaws
+mod RunLaws
+mod SiteLaws
+mod SpelledLaws
+mod StageLaws
+mod SumsOver
+mod TableLaws
+mod FirstLaws
+mod ToldLaws
+mod VisitLaws

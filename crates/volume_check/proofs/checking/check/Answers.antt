@@ -1,0 +1,32 @@
+use Rattle.std.proofs.Common.{◌+◌, ◌∙◌, ap}
+use Rattle.std.proofs.lemmas.Option.{IfSome_then}
+use Rattle.shared_disk.specs.Calls.{after_fence}
+use Rattle.shared_disk.specs.State.{State}
+use Rattle.volume_faults.specs.ValidityLaws.{faultless_exactly_where_valid}
+use Rattle.volume_check.proofs.ToldLaws.{if_ok_then, on_ok_of}
+use Rattle.volume_check.proofs.VisitLaws.{next_registered, visited}
+use Rattle.volume_check.proofs.checking.check.Goals as goal
+
+pub end-requires : goal.end-requires
+end-requires g c =
+    rw (c.check_under-found.ensures.same, c.in-Ok.ensures.done) (next_registered (g.D.Device.state c.args.disk.now) c.in-Ok.key.0 c.in-Ok.ensures.key)
+
+pub returns-in-Ok-end-clause-done : goal.returns-in-Ok-end-clause-done
+returns-in-Ok-end-clause-done g c =
+    on_ok_of c.check_under-found.result
+    (c.in-Ok-end.ensures.done ∙ ap (λ (t : State). after_fence c.in-Ok.key.0 t) (c.check_under-found.ensures.same ∙ c.in-Ok.ensures.done)
+    ∙ visited (g.D.Device.state c.args.disk.now) c.in-Ok.key.0 c.in-Ok.ensures.key (g.met.D.Device.keys_reached c.args.disk.now))
+
+pub returns-in-Ok-end-clause-left : goal.returns-in-Ok-end-clause-left
+returns-in-Ok-end-clause-left g c blank =
+    c.in-Ok-end.ensures.done ∙ ap (λ (t : State). after_fence c.in-Ok.key.0 t) (c.check_under-found.ensures.same ∙ c.in-Ok.ensures.done)
+    ∙ visited (g.D.Device.state c.args.disk.now) c.in-Ok.key.0 c.in-Ok.ensures.key (g.met.D.Device.keys_reached c.args.disk.now)
+
+pub returns-in-Ok-end-clause-valid : goal.returns-in-Ok-end-clause-valid
+returns-in-Ok-end-clause-valid g c =
+    let s = g.D.Device.state c.args.disk.now in
+    let done =
+    c.in-Ok-end.ensures.done ∙ ap (λ (t : State). after_fence c.in-Ok.key.0 t) (c.check_under-found.ensures.same ∙ c.in-Ok.ensures.done)
+    ∙ visited s c.in-Ok.key.0 c.in-Ok.ensures.key (g.met.D.Device.keys_reached c.args.disk.now) in
+    let are = rw c.in-Ok.ensures.done at c.check_under-found.ensures.faults in
+    rw done (if_ok_then c.check_under-found.result are (λ faults of. IfSome_then s.told of (λ t is. faultless_exactly_where_valid (s.counter + 1) t.image faults.items is)))

@@ -1,0 +1,7 @@
+pub mod Blocks
+pub mod Counts
+pub mod Metadatas
+pub mod Records
+pub mod SitesAt
+pub mod TableFields
+pub mod Visits
