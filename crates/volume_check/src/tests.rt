@@ -104,39 +104,116 @@ fn small<'a>(numbers: &'a [(usize, usize, u32)]) -> Volume<'a> {
 
 #[test]
 fn valid_volumes(rt: HostRuntime) -> Result<(), Fail> {
-    // File 0 holds block 7 under the lock of host 0.
-    let written = Volume {
-        geometry: FOUR_SHARDS,
-        numbers: &[
-            (1, 8, 1),
-            (1, 20, 32),
-            (5, 8, 1),
-            (5, 20, 32),
-            (11, 12, 3),
-            (11, 64, 1),
-            (15, 64, 1),
-        ],
-        cut: 0,
-        counter: 2,
-    };
-    expect_usage(&rt, rt.alloc(), &written, Usage { used: 1, mapped: 1 })?;
-    // A standing record makes file 0.
-    let standing = small(&[
-        (1, 8, 1),
-        (1, 20, 32),
-        (5, 8, 1),
-        (5, 20, 32),
-        (3, 8, 1),
-        (3, 20, 32),
-        (3, 76, 1),
-    ]);
-    expect_usage(&rt, rt.alloc(), &standing, Usage { used: 0, mapped: 0 })?;
-    // Host 1 reads file 0 under a key that has ended.
-    let read = small(&[(5, 8, 2), (5, 76, 33)]);
-    expect_usage(&rt, rt.alloc(), &read, Usage { used: 0, mapped: 0 })?;
-    // The pointer behind the end of file 0 is counted.
-    let remains = small(&[(11, 12, 1), (11, 64, 1), (15, 64, 1)]);
-    expect_usage(&rt, rt.alloc(), &remains, Usage { used: 1, mapped: 1 })
+    let cases: [(Volume, u32, u32); 9] = [
+        // File 0 holds block 7 under the lock of host 0.
+        (
+            Volume {
+                geometry: FOUR_SHARDS,
+                numbers: &[
+                    (1, 8, 1),
+                    (1, 20, 32),
+                    (5, 8, 1),
+                    (5, 20, 32),
+                    (11, 12, 3),
+                    (11, 64, 1),
+                    (15, 64, 1),
+                ],
+                cut: 0,
+                counter: 2,
+            },
+            1,
+            1,
+        ),
+        // A standing record makes file 0.
+        (
+            small(&[
+                (1, 8, 1),
+                (1, 20, 32),
+                (5, 8, 1),
+                (5, 20, 32),
+                (3, 8, 1),
+                (3, 20, 32),
+                (3, 76, 1),
+            ]),
+            0,
+            0,
+        ),
+        // Host 1 reads file 0 under a key that has ended.
+        (small(&[(5, 8, 2), (5, 76, 33)]), 0, 0),
+        // Two hosts read file 0.
+        (
+            Volume {
+                geometry: [3, 4, 1, 1, 1, 1, 1],
+                numbers: &[
+                    (2, 8, 1),
+                    (2, 20, 49),
+                    (3, 8, 1),
+                    (3, 20, 66),
+                    (7, 8, 2),
+                    (7, 76, 49),
+                    (7, 84, 66),
+                    (13, 12, 2),
+                    (13, 64, 1),
+                    (17, 64, 1),
+                ],
+                cut: 0,
+                counter: 4,
+            },
+            1,
+            1,
+        ),
+        // The pointer behind the end of file 0 is counted.
+        (small(&[(11, 12, 1), (11, 64, 1), (15, 64, 1)]), 1, 1),
+        // File 0 was cut to one block, and then made longer again.
+        (
+            Volume {
+                geometry: [1; 7],
+                numbers: &[(6, 12, 2), (6, 68, 1), (6, 72, 2), (7, 64, 1), (7, 68, 1)],
+                cut: 0,
+                counter: 2,
+            },
+            2,
+            2,
+        ),
+        (
+            Volume {
+                geometry: [1; 7],
+                numbers: &[(6, 12, 4)],
+                cut: 0,
+                counter: 2,
+            },
+            0,
+            0,
+        ),
+        // Two files and a slot of the arena name data block 0.
+        (
+            small(&[
+                (11, 12, 2),
+                (11, 64, 0x8000_0001),
+                (12, 12, 2),
+                (12, 64, 0x8000_0001),
+                (16, 64, 1),
+                (15, 64, 3),
+            ]),
+            1,
+            3,
+        ),
+        // A pointer in the second table block of file 0.
+        (
+            Volume {
+                geometry: TWO_TABLES,
+                numbers: &[(7, 12, 2017), (2030, 64, 1), (8, 64, 1)],
+                cut: 0,
+                counter: 0,
+            },
+            1,
+            1,
+        ),
+    ];
+    for (volume, used, mapped) in cases {
+        expect_usage(&rt, rt.alloc(), &volume, Usage { used, mapped })?;
+    }
+    Ok(())
 }
 
 #[test]
