@@ -22,19 +22,21 @@ pub trait Store: Drop {
     /// The counter that is kept, where the store tells it.
     ghost kept: { Self → Option ℕ };
 
-    /// Whether the store was opened. One that was not takes no counter.
+    /// Whether the store was opened. One that was not fails each call.
     ghost is_open: { Self → Bool };
 
     /// The block at the place.
     fn block(&self, place: u64) -> io::Result<Block>
         requires { place < BLOCKS }
-        ensures { IfOk result (λ block. IfSome (told self.now) (λ told. slice_get told.image place ≡ Some block.0)) };
+        ensures block { IfOk result (λ block. IfSome (told self.now) (λ told. slice_get told.image place ≡ Some block.0)) }
+        ensures opened { OnOk result (IsTrue (is_open self.now)) };
 
     /// Puts a block at the place.
     fn set_block(&mut self, place: u64, block: &Block) -> io::Result<()>
         requires { place < BLOCKS }
         ensures done { OnOk result (told self.new ≡ option_map (told_after place block.now.0) (told self.old)) }
         ensures same { OnErr result (told self.new ≡ told self.old) }
+        ensures opened { OnOk result (IsTrue (is_open self.old)) }
         ensures kept { kept self.new ≡ kept self.old }
         ensures open { is_open self.new ≡ is_open self.old };
 

@@ -1,6 +1,9 @@
 // What no clause says: what stands in a real file, and that the calls succeed.
 use crate::file_disk::FileDisk;
+use crate::volume_file::read_padded;
 use shared_disk::{Device, DiskNo, Tested};
+use std::io::Read;
+use std::os::unix::fs::FileExt;
 use std::test::Fail;
 use std::{env, fs, io, process};
 use vol_base::{Block, Key};
@@ -8,6 +11,44 @@ use vol_base::{Block, Key};
 // A block of one byte, again and again.
 fn filled(byte: u8) -> Block {
     Block([byte; 4096])
+}
+
+// A file that hands out seven bytes at a time at most.
+#[derive(Drop)]
+struct Piecemeal<'a> {
+    bytes: &'a [u8],
+}
+
+impl FileExt for Piecemeal<'_> {
+    fn read_at(&self, buf: &mut [u8], offset: u64) -> io::Result<usize> {
+        let start = self.bytes.len().min(offset as usize);
+        let end = self.bytes.len().min(start.saturating_add(7));
+        let mut piece = &self.bytes[start..end];
+        piece.read(buf)
+    }
+
+    fn write_at(&self, _: &[u8], _: u64) -> io::Result<usize> {
+        Ok(0)
+    }
+}
+
+#[test]
+fn pieces_are_read_to_the_end_of_the_file(rt: HostRuntime) -> Result<(), Fail> {
+    let file = Piecemeal {
+        bytes: b"0123456789abcdefghijkl",
+    };
+    for (at, want) in [
+        (0, b"0123456789abcdef"),
+        (5, b"56789abcdefghijk"),
+        (8, b"89abcdefghijkl.."),
+        (21, b"l..............."),
+        (30, b"................"),
+    ] {
+        let mut into = *b"................";
+        read_padded(&file, at, &mut into)?;
+        assert_eq!(rt; into.as_slice(), want.as_slice(), "at {at}");
+    }
+    Ok(())
 }
 
 // The path of a file for one test, in the folder for such files.

@@ -74,7 +74,7 @@ fn byte_of(place: u64) -> u64
 }
 
 // Reads the bytes from byte `at` on over those in `into`; past the end of the file these stay.
-fn read_padded(file: &File, at: u64, into: &mut [u8]) -> io::Result<()>
+pub(crate) fn read_padded<F: FileExt>(file: &F, at: u64, into: &mut [u8]) -> io::Result<()>
     requires { at + length into.old < 2 ^ 64 }
 {
     let mut done = 0;

@@ -13,7 +13,8 @@ use vol_base::{HostNo, NoMemory, Packed};
 use vol_layout::{Geometry, Table};
 
 /// The file tables that the hosts of a volume keep: for each host and each table block of a file
-/// nothing, or the table that was kept last and not forgotten since.
+/// nothing, or the table that was kept last and not forgotten since. How they stand in memory is in
+/// docs/ARCHITECTURE.md, "Kept tables".
 #[derive(Drop)]
 pub struct HeldCache {
     volume: Geometry,

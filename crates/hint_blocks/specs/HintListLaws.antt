@@ -1,18 +1,18 @@
 -- What is kept of a block's entries reads as the same hints.
-use Rattle.std.proofs.Common.{◌≡◌, ◌≤◌, ◌+◌, ℕ, zero, suc, List, [], ◌∷◌, ◌++◌, true, false, not, Some, None, Option, length, refl, sym, ap, ◌∙◌, arith, map, take, subst, zero-le, suc-le-suc}
-use Rattle.std.specs.Prelude.{All, IfSome, option_map, slice_get, nat_le}
+use Rattle.std.proofs.Common.{◌≡◌, ◌<◌, ◌≤◌, ◌+◌, ℕ, zero, suc, List, [], ◌∷◌, ◌++◌, true, false, not, Some, None, Option, length, refl, sym, ap, ◌∙◌, arith, drop, map, take, subst, zero-le, suc-le-suc}
+use Rattle.std.specs.Prelude.{All, IfSome, option_map, slice_get, nat_le, nat_lt}
 use Rattle.std.specs.List.{filter_map, cons_option}
 use Rattle.std.specs.Str.{bytes_eq}
 use Rattle.std.proofs.lemmas.List.{append-nil, take_more}
 use Rattle.std.proofs.lemmas.List.Elements.{All-cons, All-head, All-nil, All-tail, filter-append, filter_map-append}
 use Rattle.std.specs.Option.{option_to_list}
 use Rattle.std.proofs.lemmas.List.Filters.{length-filter_both}
-use Rattle.std.proofs.lemmas.Bool.{and_from, and_parts, cond-false, cond-true, false_from_ne_true, le-leb, leb-true}
+use Rattle.std.proofs.lemmas.Bool.{and_from, and_parts, cond-false, cond-true, false_from_ne_true, le-leb, le-ltb, leb-true, lt-ltb}
 use Rattle.std.proofs.lemmas.Option.{get_or_from_slice_get, none-some, same_Some, slice_get_within}
 use Rattle.std.proofs.lemmas.Slice.Eq.{bytes_eq-Decides}
 use Rattle.vol_base.specs.Bytes.{u32_at}
 use Rattle.vol_base.specs.Packing.{IsPacked, Packing, packing_of, room_of}
-use Rattle.hint_blocks.specs.HintLists.{hints_in, is_hint_block, without}
+use Rattle.hint_blocks.specs.HintLists.{hints_in, is_hint_block, pushed_over, without}
 
 -- the piece is the spelling of the hint that it reads as
 abbrev pub IsSpelling : {T : Type 0} → (List ℕ → Option T) → (T → List ℕ) → List ℕ → Type 0
@@ -134,3 +134,10 @@ pub length-without : {T : Type 0} (digest_bytes : T → List ℕ) (digest : List
 length-without digest_bytes digest xs =
     let both = length-filter_both (λ y. not (bytes_eq (digest_bytes y) digest)) (λ y. not (not (bytes_eq (digest_bytes y) digest))) (λ _. refl) xs in
     omega arith
+
+-- a push where there is room, and where there is none
+pub pushed_over-room : {T : Type 0} (room : ℕ) (xs : List T) (x : T) → length xs < room → pushed_over room xs x ≡ xs ++ x ∷ []
+pushed_over-room room xs x h = ap (λ ys. ys ++ x ∷ []) (cond-true (nat_lt (length xs) room) xs (drop 1 xs) (lt-ltb (length xs) room h))
+
+pub pushed_over-full : {T : Type 0} (room : ℕ) (xs : List T) (x : T) → room ≤ length xs → pushed_over room xs x ≡ drop 1 xs ++ x ∷ []
+pushed_over-full room xs x h = ap (λ ys. ys ++ x ∷ []) (cond-false (nat_lt (length xs) room) xs (drop 1 xs) (le-ltb (length xs) room h))

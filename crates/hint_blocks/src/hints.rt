@@ -52,6 +52,7 @@ impl<T: Hint> Hints<T> {
     pub fn of(block: &Block, geometry: &Geometry) -> Hints<T>
         requires { IsGeometry geometry.now }
         ensures entries { result.entries ≡ hints_in T.MAGIC (T.read geometry.now) block.now.0 }
+        ensures room { length result.entries ≤ 126 }
         ensures range { All (T.IsInRange geometry.now) result.entries }
         ensures geometry { result.geometry ≡ geometry.now }
     {

@@ -3,6 +3,7 @@
 #![tactic(auto)]
 
 mod knowledge;
+mod last_seen;
 mod lock;
 mod plays;
 mod seat;

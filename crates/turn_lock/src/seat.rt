@@ -5,6 +5,7 @@ ghost use Rattle.turn_lock.specs.Rule.{IsAt};
 ghost use Rattle.turn_lock.specs.Steps.{sits};
 
 use crate::knowledge::{Board, Place};
+use crate::last_seen::LastSeen;
 use crate::steps;
 use std::marker::Model;
 use std::snapshot::Snapshot;
@@ -16,8 +17,8 @@ use vol_base::Counted;
 #[derive(Drop)]
 pub struct TurnSeat<T: Counted> {
     place: Place<T>,
-    seen: Snapshot<Snapshot<T>>,
-    has: Snapshot<bool>,
+    seen: LastSeen<Snapshot<T>>,
+    has: bool,
     number: u32,
     entries: u64,
 }
@@ -29,9 +30,9 @@ impl<T: Counted> Model for TurnSeat<T> {
 
     ghost Value = { SeatView T };
 
-    ghost view = { λ s. record { lock = s.place.table_id; number = s.number; has = s.has.value; seen = s.seen.value.value } };
+    ghost view = { λ s. record { lock = s.place.table_id; number = s.number; has = s.has; seen = s.seen.value.value } };
 
-    ghost invariant = { λ s. (s.place.me ≡ sits s.has.value s.seen.value.value s.entries) × (s.entries ≡ length (T.listed s.seen.value.value)) };
+    ghost invariant = { λ s. (s.place.me ≡ sits s.has s.seen.value.value s.entries) × (s.entries ≡ length (T.listed s.seen.value.value)) };
 }
 
 impl<T: Counted> TurnSeat<T> {
@@ -61,8 +62,8 @@ impl<T: Counted> TurnSeat<T> {
     {
         TurnSeat {
             place,
-            seen: Snapshot::of(first),
-            has: Snapshot::of(&false),
+            seen: LastSeen::of(first),
+            has: false,
             number,
             entries,
         }
@@ -76,8 +77,8 @@ impl<T: Counted> TurnSeat<T> {
     {
         steps::take_turn(rt, board, &mut self.place);
         let (value, entries) = steps::take_out(board, &mut self.place);
-        self.seen = Snapshot::of(&Snapshot::of(&value));
-        self.has = Snapshot::of(&true);
+        self.seen = LastSeen::of(&Snapshot::of(&value));
+        self.has = true;
         self.entries = entries;
         value
     }
@@ -88,8 +89,8 @@ impl<T: Counted> TurnSeat<T> {
         requires later { Follows T.began T.listed self.old.seen value }
         ensures { self.new ≡ record self.old { has = false; seen = value } }
     {
-        self.seen = Snapshot::of(&Snapshot::of(&value));
-        self.has = Snapshot::of(&false);
+        self.seen = LastSeen::of(&Snapshot::of(&value));
+        self.has = false;
         self.entries = value.entries();
         steps::put_back(board, &mut self.place, value, self.entries);
     }

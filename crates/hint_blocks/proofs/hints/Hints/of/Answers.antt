@@ -39,3 +39,9 @@ returns-clause-range g c =
     let range = g.T.Hint.IsInRange c.args.geometry.now in
     subst (λ (hints : HintList g.row.T.Denot). All range hints.entries) (sym c.loop-k.invariant)
     (All-filter_map read range (λ e. g.met.T.Hint.reads_in_range c.args.geometry.now e) (take c.loop-k.k c.in-Some.packed.entries))
+
+pub returns-clause-room : goal.returns-clause-room
+returns-clause-room g c =
+    let kept = ap (λ (hints : HintList g.row.T.Denot). length hints.entries) c.loop-k.invariant in
+    let few = length-filter_map-le (g.T.Hint.read c.args.geometry.now) (take c.loop-k.k c.in-Some.packed.entries) in
+    omega (arith, c.count-k-end.ensures.packing.room, length-take c.loop-k.k c.in-Some.packed.entries)

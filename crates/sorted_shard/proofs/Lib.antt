@@ -1,0 +1,4 @@
+mod Parts
+mod Edited
+mod Sorting
+mod Shelving

@@ -1,0 +1,4 @@
+pub mod Digests
+pub mod Shelves
+pub mod ShelfLaws
+pub mod SortedOnce
