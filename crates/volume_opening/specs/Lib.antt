@@ -1,0 +1,6 @@
+pub mod Misfits
+pub mod Openings
+pub mod Refusals
+pub mod Found
+pub mod MisfitLaws
+pub mod Blanked
