@@ -1,5 +1,6 @@
 -- The text of a generated workload, rule by rule.
-use Rattle.std.specs.Prelude.{◌≡◌, ◌+◌, ◌*◌, ◌/◌, ◌%◌, ◌==◌, ℕ, List, [], ◌∷◌, ◌++◌, codes, decimal, if◌then◌else◌}
+use Rattle.std.specs.Prelude.{◌≡◌, ◌+◌, ◌*◌, ◌/◌, ◌%◌, ◌==◌, ℕ, List, [], ◌∷◌, ◌++◌, codes, decimal, if◌then◌else◌, String, string_bytes}
+use Rattle.std.specs.declared.alloc.Global.{Global}
 use Rattle.std.specs.List.{flat_map, range_with_len}
 use Rattle.workload.specs.Printed.{ended, with_numbers}
 
@@ -55,5 +56,5 @@ abbrev pub generated : ℕ → List ℕ
 generated rounds = ended (generated_lines rounds)
 
 -- a text gained these lines, each ended by LF
-pub record Gains (before after : List ℕ) (lines : List (List ℕ)) : Type 0 where
-  pub text : after ≡ before ++ ended lines
+pub record Gains (before after : String Global) (lines : List (List ℕ)) : Type 0 where
+  pub text : string_bytes after ≡ string_bytes before ++ ended lines

@@ -9,9 +9,10 @@ use workload::write_numbers;
 // Each host has the files whose number modulo this is its own, so it has so many too.
 const HOSTS: u64 = 4;
 
-// How many blocks a host writes in a round, and how many indexes of its files they take.
+// How many blocks a host writes in a round.
 const WRITES: u64 = 10;
 
+// How many indexes of a host's files belong to a round.
 const INDEXES: u64 = 3;
 
 // The numbers that are written are 1 to this.
@@ -21,7 +22,7 @@ const CONTENTS: u64 = 101;
 const ROUNDS_A_LOG: u64 = 10;
 
 /// The text of a workload of so many rounds, each a phase, between a phase that makes the files, one
-/// that merges and one that serves. It is in the workload language.
+/// that merges and one that serves. Its rules are in docs/COMMANDS.md, "The generated workload".
 pub fn gen_text(alloc: Global, rounds: u32) -> Result<Vec<u8>, NoMemory>
     requires some { 1 ≤ rounds }
     requires bounded { rounds ≤ 100 }
@@ -36,7 +37,7 @@ pub fn gen_text(alloc: Global, rounds: u32) -> Result<Vec<u8>, NoMemory>
 
 fn write_workload(text: &mut String, rounds: u64) -> Result<(), AllocError>
     requires { rounds ≤ 100 }
-    ensures { OnOk result (Gains (string_bytes text.old) (string_bytes text.new) (generated_lines rounds)) }
+    ensures { OnOk result (Gains text.old text.new (generated_lines rounds)) }
 {
     write_line(text, "volume 4 16 4 4 8 4")?;
     write_starts(text, rounds)?;
@@ -47,7 +48,7 @@ fn write_workload(text: &mut String, rounds: u64) -> Result<(), AllocError>
 
 fn write_starts(text: &mut String, rounds: u64) -> Result<(), AllocError>
     requires { rounds ≤ 100 }
-    ensures { OnOk result (Gains (string_bytes text.old) (string_bytes text.new) (each_below 4 (start_lines rounds))) }
+    ensures { OnOk result (Gains text.old text.new (each_below 4 (start_lines rounds))) }
 {
     for host in 0..HOSTS {
         write_start(text, rounds, host)?;
@@ -58,7 +59,7 @@ fn write_starts(text: &mut String, rounds: u64) -> Result<(), AllocError>
 fn write_start(text: &mut String, rounds: u64, host: u64) -> Result<(), AllocError>
     requires rounds { rounds ≤ 100 }
     requires host { host < 4 }
-    ensures { OnOk result (Gains (string_bytes text.old) (string_bytes text.new) (start_lines rounds host)) }
+    ensures { OnOk result (Gains text.old text.new (start_lines rounds host)) }
 {
     write_command(text, host, "join", &[])?;
     write_files(text, rounds, host)
@@ -67,7 +68,7 @@ fn write_start(text: &mut String, rounds: u64, host: u64) -> Result<(), AllocErr
 fn write_files(text: &mut String, rounds: u64, host: u64) -> Result<(), AllocError>
     requires rounds { rounds ≤ 100 }
     requires host { host < 4 }
-    ensures { OnOk result (Gains (string_bytes text.old) (string_bytes text.new) (each_below 4 (λ q. file_lines rounds host (4 * q + host)))) }
+    ensures { OnOk result (Gains text.old text.new (each_below 4 (λ q. file_lines rounds host (4 * q + host)))) }
 {
     for quarter in 0..HOSTS {
         write_file(text, rounds, host, HOSTS * quarter + host)?;
@@ -77,7 +78,7 @@ fn write_files(text: &mut String, rounds: u64, host: u64) -> Result<(), AllocErr
 
 fn write_file(text: &mut String, rounds: u64, host: u64, file: u64) -> Result<(), AllocError>
     requires { rounds ≤ 100 }
-    ensures { OnOk result (Gains (string_bytes text.old) (string_bytes text.new) (file_lines rounds host file)) }
+    ensures { OnOk result (Gains text.old text.new (file_lines rounds host file)) }
 {
     write_command(text, host, "create", &[file])?;
     write_command(text, host, "size", &[file, INDEXES * rounds])
@@ -85,7 +86,7 @@ fn write_file(text: &mut String, rounds: u64, host: u64, file: u64) -> Result<()
 
 fn write_rounds(text: &mut String, rounds: u64) -> Result<(), AllocError>
     requires { rounds ≤ 100 }
-    ensures { OnOk result (Gains (string_bytes text.old) (string_bytes text.new) (each_below rounds round_lines)) }
+    ensures { OnOk result (Gains text.old text.new (each_below rounds round_lines)) }
 {
     for round in 0..rounds {
         write_round(text, round)?;
@@ -95,7 +96,7 @@ fn write_rounds(text: &mut String, rounds: u64) -> Result<(), AllocError>
 
 fn write_round(text: &mut String, round: u64) -> Result<(), AllocError>
     requires { round < 100 }
-    ensures { OnOk result (Gains (string_bytes text.old) (string_bytes text.new) (round_lines round)) }
+    ensures { OnOk result (Gains text.old text.new (round_lines round)) }
 {
     write_line(text, "barrier")?;
     write_turns(text, round)
@@ -103,7 +104,7 @@ fn write_round(text: &mut String, round: u64) -> Result<(), AllocError>
 
 fn write_turns(text: &mut String, round: u64) -> Result<(), AllocError>
     requires { round < 100 }
-    ensures { OnOk result (Gains (string_bytes text.old) (string_bytes text.new) (each_below 4 (host_lines round))) }
+    ensures { OnOk result (Gains text.old text.new (each_below 4 (host_lines round))) }
 {
     for host in 0..HOSTS {
         write_turn(text, round, host)?;
@@ -115,7 +116,7 @@ fn write_turns(text: &mut String, round: u64) -> Result<(), AllocError>
 fn write_turn(text: &mut String, round: u64, host: u64) -> Result<(), AllocError>
     requires round { round < 100 }
     requires host { host < 4 }
-    ensures { OnOk result (Gains (string_bytes text.old) (string_bytes text.new) (host_lines round host)) }
+    ensures { OnOk result (Gains text.old text.new (host_lines round host)) }
 {
     write_blocks(text, round, host)?;
     write_command(text, host, "read", &[host, INDEXES * round])?;
@@ -125,7 +126,7 @@ fn write_turn(text: &mut String, round: u64, host: u64) -> Result<(), AllocError
 fn write_blocks(text: &mut String, round: u64, host: u64) -> Result<(), AllocError>
     requires round { round < 100 }
     requires host { host < 4 }
-    ensures { OnOk result (Gains (string_bytes text.old) (string_bytes text.new) (each_below 10 (λ k. write_line round host k ∷ []))) }
+    ensures { OnOk result (Gains text.old text.new (each_below 10 (λ k. write_line round host k ∷ []))) }
 {
     for k in 0..WRITES {
         write_block(text, round, host, k)?;
@@ -146,7 +147,7 @@ fn write_block(text: &mut String, round: u64, host: u64, k: u64) -> Result<(), A
 }
 
 fn write_log(text: &mut String, round: u64, host: u64) -> Result<(), AllocError>
-    ensures { OnOk result (Gains (string_bytes text.old) (string_bytes text.new) (log_lines round host)) }
+    ensures { OnOk result (Gains text.old text.new (log_lines round host)) }
 {
     if round % ROUNDS_A_LOG == ROUNDS_A_LOG - 1 {
         return write_command(text, host, "log", &[]);
@@ -156,14 +157,14 @@ fn write_log(text: &mut String, round: u64, host: u64) -> Result<(), AllocError>
 
 // A phase in which each host has this command.
 fn write_ending(text: &mut String, name: &str) -> Result<(), AllocError>
-    ensures { OnOk result (Gains (string_bytes text.old) (string_bytes text.new) (ending_lines name.now)) }
+    ensures { OnOk result (Gains text.old text.new (ending_lines name.now)) }
 {
     write_line(text, "barrier")?;
     write_for_each_host(text, name)
 }
 
 fn write_for_each_host(text: &mut String, name: &str) -> Result<(), AllocError>
-    ensures { OnOk result (Gains (string_bytes text.old) (string_bytes text.new) (each_below 4 (λ host. command_line host name.now [] ∷ []))) }
+    ensures { OnOk result (Gains text.old text.new (each_below 4 (λ host. command_line host name.now [] ∷ []))) }
 {
     for host in 0..HOSTS {
         write_command(text, host, name, &[])?;

@@ -42,7 +42,7 @@ fn hosts_interleave_inside_a_command(rt: HostRuntime) -> Result<(), AllocError> 
     let (pair, ended) = run_phase(&rt, rt.alloc(), pair, 2, &meeting);
     assert_eq!(rt; ended, Ok::<(), NoMemory>(()));
     is_done(&rt, &pair);
-    assert!(rt; !meeting.was_missed(), "the hosts met");
+    assert!(rt; meeting.was_held(), "the hosts met");
     Ok(())
 }
 

@@ -24,8 +24,11 @@ impl Meeting {
         }
     }
 
-    pub fn was_missed(&self) -> bool {
-        self.missed.load(Ordering::SeqCst)
+    /// Whether both came, and neither had looked in vain.
+    pub fn was_held(&self) -> bool {
+        let came = self.first_came.load(Ordering::SeqCst)
+            && self.second_came.load(Ordering::SeqCst);
+        came && !self.missed.load(Ordering::SeqCst)
     }
 
     fn wait_for(&self, came: &AtomicBool) {

@@ -1,10 +1,10 @@
-use Rattle.std.proofs.Common.{◌∷◌, [], arith, string_bytes}
+use Rattle.std.proofs.Common.{◌∷◌, [], arith}
 use Rattle.gen_load.specs.Generated.{write_line}
 use Rattle.gen_load.proofs.Gaining.{all_below, line, more_below, none_below}
 use Rattle.gen_load.proofs.generating.write_blocks.Goals as goal
 
 pub loop-k-init : goal.loop-k-init
-loop-k-init c = none_below (string_bytes c.args.text.now) (λ k. write_line c.args.round c.args.host k ∷ [])
+loop-k-init c = none_below c.args.text.now (λ k. write_line c.args.round c.args.host k ∷ [])
 
 pub loop-k-preserved : goal.loop-k-preserved
 loop-k-preserved c = more_below c.loop-k.k (λ k. write_line c.args.round c.args.host k ∷ []) c.loop-k.invariant (line c.in_ok-write_block.ensures)

@@ -1,5 +1,4 @@
 use Rattle.std.proofs.lemmas.Result.{on_ok_weaker}
-use Rattle.std.proofs.Common.{string_bytes}
 use Rattle.gen_load.proofs.Gaining.{line, log, no_log, none, same_lines}
 use Rattle.gen_load.proofs.generating.write_log.Goals as goal
 
@@ -8,4 +7,4 @@ returns-then-round c =
     on_ok_weaker c.write_command.result (λ gained. same_lines (log c.args.round c.args.host c.if-round.true) (line gained)) c.write_command.ensures
 
 pub returns : goal.returns
-returns c = same_lines (no_log c.args.round c.args.host c.if-round.false) (none (string_bytes c.args.text.now))
+returns c = same_lines (no_log c.args.round c.args.host c.if-round.false) (none c.args.text.now)

@@ -1,0 +1,4 @@
+pub mod Checks
+pub mod Endings
+pub mod Outcomes
+pub mod Statuses

@@ -1,0 +1,28 @@
+// An outcome is told.
+ghost use Rattle.jobs.specs.Endings.{Told, sink_seen};
+
+use crate::outcome::Outcome;
+use crate::status::Status;
+use crate::texts::text_of;
+use std::alloc::Global;
+use vol_base::NoMemory;
+use vol_io::{Sink, write_all};
+
+/// Writes the text of an outcome, and answers its status. It answers `WriteFault` where the sink failed
+/// or took nothing, behind a front of the text; and `Memory` where the text could not be made, and then
+/// nothing is written.
+pub fn tell<K: Sink>(alloc: Global, sink: &mut K, outcome: Outcome) -> Status
+    ensures { Told
+        (sink_seen (K.taken sink.old) (K.faults sink.old) (K.refusals sink.old))
+        (sink_seen (K.taken sink.new) (K.faults sink.new) (K.refusals sink.new))
+        outcome result }
+{
+    let status = outcome.status();
+    match text_of(alloc, outcome) {
+        Ok(text) => match write_all(sink, &text) {
+            Ok(()) => status,
+            Err(_) => Status::WriteFault,
+        },
+        Err(NoMemory) => Status::Memory,
+    }
+}
