@@ -30,7 +30,8 @@ use crate::spelling::{digest_in, number_in, written};
 use vol_base::{Digest, FileNo, SlotNo};
 use vol_layout::Geometry;
 
-/// An entry of a host's log: the file wrote or has a block of this digest at the index.
+/// An entry of a host's log: the file has, or had, a block of this digest at the index. In range are a
+/// file of the volume and an index below `1008 * B`.
 #[derive(Clone, Copy, Debug, PartialEq, Eq)]
 pub struct LogEntry {
     pub digest: Digest,
@@ -38,8 +39,9 @@ pub struct LogEntry {
     pub index: u32,
 }
 
-/// Where the index says that a block of a digest is: in the only pointer of a file that is known, or in
-/// a slot of the arena, where files share it.
+/// Where the index says that a block of a digest is: at an index of a file, which has it alone as far as
+/// is known, or in a slot of the arena, where files share it. In range are a file of the volume, an
+/// index below `1008 * B` and a slot below `1008 * A`.
 #[derive(Clone, Copy, Debug, PartialEq, Eq)]
 pub enum HintTo {
     Unique(FileNo, u32),
@@ -54,7 +56,7 @@ pub struct IndexEntry {
 }
 
 /// A request to the host that holds a file: the block at the index may be shared with a slot of the
-/// arena.
+/// arena. In range are an index below `1008 * B` and a slot below `1008 * A`.
 #[derive(Clone, Copy, Debug, PartialEq, Eq)]
 pub struct Request {
     pub digest: Digest,

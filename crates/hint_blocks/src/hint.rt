@@ -44,5 +44,6 @@ pub trait Hint: Copy {
     ghost reads_in_range: { (g : Geometry) (bytes : List ℕ) → IfSome (read g bytes) (IsInRange g) };
 
     /// What is written for an entry in range reads as it.
-    ghost reads_back: { (g : Geometry) (hint : Self) → IsGeometry g → IsInRange g hint → length (entry_bytes hint) ≡ 32 → read g (entry_bytes hint) ≡ Some hint };
+    ghost reads_back: { (g : Geometry) (hint : Self) → IsGeometry g → IsInRange g hint
+        → length (entry_bytes hint) ≡ 32 → read g (entry_bytes hint) ≡ Some hint };
 }

@@ -29,9 +29,13 @@ impl<T: Hint> Model for Hints<T> {
 
     ghost Value = { HintList T };
 
-    ghost view = { λ hints. record { geometry = hints.geometry; entries = filter_map (T.read hints.geometry) hints.packed.entries } };
+    ghost view = { λ hints. record {
+      geometry = hints.geometry;
+      entries = filter_map (T.read hints.geometry) hints.packed.entries;
+    } };
 
-    ghost invariant = { λ hints. IsGeometry hints.geometry × (hints.packed.magic ≡ T.MAGIC) × (hints.packed.word ≡ 0) × All (IsSpelling (T.read hints.geometry) T.entry_bytes) hints.packed.entries };
+    ghost invariant = { λ hints. IsGeometry hints.geometry × (hints.packed.magic ≡ T.MAGIC) × (hints.packed.word ≡ 0)
+        × All (IsSpelling (T.read hints.geometry) T.entry_bytes) hints.packed.entries };
 }
 
 impl<T: Hint> Hints<T> {

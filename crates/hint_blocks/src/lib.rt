@@ -1,5 +1,6 @@
 //! Hint blocks: what hosts tell each other about blocks that may be equal. A hint may be wrong, and any
-//! block reads as a list of hints in range. No call of this crate takes memory.
+//! block reads as a list of hints in range. `docs/FORMATS.md`, "Hint blocks", has the bytes. No call of
+//! this crate takes memory.
 #![tactic(auto)]
 
 mod entry;

@@ -116,12 +116,14 @@ fn entries_in_range_are_read(rt: HostRuntime) {
         (b"DEDELOGS", 127, 0, [0, 0, 0], SMALL, None),
         (b"DEDELOGS", 0, 0, [0, 0, 0], SMALL, None),
         (b"DEDEINDX", 1, 0, [0, 0, 0], SMALL, None),
-        (&[255; 8], u32::MAX, u32::MAX, [u32::MAX; 3], SMALL, None),
+        (b"DEDELOGS", u32::MAX, u32::MAX, [u32::MAX; 3], SMALL, None),
     ];
     for (magic, count, word, numbers, geometry, hint) in logs {
         let found = only::<LogEntry>(&rt, &block(magic, count, word, numbers), &geometry);
         assert_eq!(rt; found, hint, "log {count} {word} {numbers:?}");
     }
+    let ones = only::<LogEntry>(&rt, &Block([255; 4096]), &SMALL);
+    assert_eq!(rt; ones, None);
     let index = [
         (
             [0, 3, 1007],

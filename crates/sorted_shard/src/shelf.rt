@@ -39,7 +39,8 @@ impl Model for Shelf {
 
     ghost view = { λ s. record { geometry = s.geometry; blocks = s.blocks; entries = take s.count s.entries } };
 
-    ghost invariant = { λ s. (length s.entries ≡ 504) × (s.count ≤ 504) × IsShelf (record { geometry = s.geometry; blocks = s.blocks; entries = take s.count s.entries }) };
+    ghost invariant = { λ s. (length s.entries ≡ 504) × (s.count ≤ 504)
+        × IsShelf (record { geometry = s.geometry; blocks = s.blocks; entries = take s.count s.entries }) };
 }
 
 impl Shelf {
