@@ -3,4 +3,5 @@ pub mod Openings
 pub mod Refusals
 pub mod Found
 pub mod MisfitLaws
+pub mod OpeningLaws
 pub mod Blanked

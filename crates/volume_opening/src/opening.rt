@@ -21,7 +21,8 @@ use vol_layout::Geometry;
 
 /// Opens a device for a workload of this geometry: a blank device becomes an empty volume, and any other
 /// one has to be a valid volume of this geometry, which stays as it is. It registers a key for host 0,
-/// and fences it at its end unless a call of the device failed.
+/// and fences it at its end unless a call of the device failed. docs/FORMATS.md, "Opening", has the order
+/// of the calls.
 pub fn open<D: Device>(alloc: Global, disk: &mut D, geometry: &Geometry) -> Result<(), OpenNo>
     requires { IsGeometry geometry.now }
     ensures opened { OnOk result (IsOpened geometry.now (D.state disk.old) (D.state disk.new)) }
