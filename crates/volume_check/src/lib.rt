@@ -22,5 +22,6 @@ mod uses;
 mod visits;
 
 pub use checking::{CheckNo, check, check_tables};
+pub use spelling::is_of_kind;
 pub use surveying::survey;
 pub use volume_faults::{Fault, FaultKind};

@@ -1,0 +1,2 @@
+mod FreeLaws
+mod ReadLaws

@@ -1,0 +1,4 @@
+pub mod Tables
+pub mod Free
+pub mod NumberLaws
+pub mod WriteLaws
