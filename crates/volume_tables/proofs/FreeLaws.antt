@@ -1,14 +1,13 @@
 -- The search for a count that is 0, table by table.
-use Rattle.std.proofs.Common.{◌≡◌, ◌≢◌, ◌<◌, ◌≤◌, ◌+◌, ◌-◌, ◌*◌, ◌/◌, ◌%◌, ℕ, Option, Some, None, refl, sym, ap, ◌∙◌, subst, arith, inl, inr}
+use Rattle.std.proofs.Common.{◌≡◌, ◌≢◌, ◌<◌, ◌≤◌, ◌+◌, ◌-◌, ◌*◌, ◌/◌, ◌%◌, ℕ, Option, Some, None, sym, ap, ◌∙◌, subst, arith, inl, inr}
 use Rattle.std.specs.Prelude.{IfSome, slice_index}
 use Rattle.std.proofs.lemmas.Bool.{cases_lt}
-use Rattle.std.proofs.lemmas.Option.{IfSome_then}
 use Rattle.shared_disk.specs.State.{Told}
 use Rattle.vol_base.specs.Packing.{Packing, numbers}
 use Rattle.vol_layout.specs.declared.geometry.Geometry.{Geometry}
 use Rattle.vol_layout.specs.declared.kind.Table.TheVariants as tables
 use Rattle.vol_layout.specs.declared.field.Field.TheVariants.{Count}
-use Rattle.vol_layout.specs.Fields.{HasField, table_of}
+use Rattle.vol_layout.specs.Fields.{HasField}
 use Rattle.vol_layout.specs.Ranges.{data_blocks, per_table}
 use Rattle.image_view.specs.Images.{Image}
 use Rattle.image_view.specs.Numbers.{field}

@@ -1,5 +1,5 @@
 -- What a block that was read says of the image and of its table.
-use Rattle.std.proofs.Common.{◌≡◌, ◌∙◌, ℕ, List, [], Option, Some, None, refl, sym, ap, subst}
+use Rattle.std.proofs.Common.{◌≡◌, ◌∙◌, ℕ, List, [], Option, Some, None, sym, ap, subst}
 use Rattle.std.specs.Prelude.{IsNone, IsSome, slice_get}
 use Rattle.std.proofs.lemmas.Option.{get_or_from_slice_get}
 use Rattle.vol_base.specs.Bytes.{u32_at}

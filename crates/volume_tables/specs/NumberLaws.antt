@@ -1,7 +1,7 @@
 -- The numbers of fields in the packing of a table, and what a change of one leaves.
-use Rattle.std.proofs.Common.{◌≡◌, ◌≢◌, ◌<◌, ◌≤◌, ◌+◌, ◌*◌, ◌/◌, ◌%◌, ◌^◌, ◌==◌, ℕ, Bool, true, false, List, [], ◌∷◌, Option, Some, None, length, refl, sym, ap, ◌∙◌, subst, arith, inl, inr, set, get_or-set_other, get_or-set_same}
-use Rattle.std.specs.Prelude.{All, slice_index, slice_set}
-use Rattle.std.proofs.lemmas.Bool.{cases_Bool, eqb-false, eqb-true}
+use Rattle.std.proofs.Common.{◌≡◌, ◌≢◌, ◌<◌, ◌/◌, ◌%◌, ◌^◌, ◌==◌, ℕ, List, [], ◌∷◌, Option, Some, None, length, refl, sym, ap, ◌∙◌, subst, arith, inl, inr, get_or-set_other, get_or-set_same}
+use Rattle.std.specs.Prelude.{slice_index}
+use Rattle.std.proofs.lemmas.Bool.{cases_Bool, eqb-true}
 use Rattle.std.proofs.lemmas.List.{length-map, length-set, map-set}
 use Rattle.std.proofs.lemmas.List.Elements.{All-cons, All-nil, All-set}
 use Rattle.vol_base.specs.Bytes.{IsBlock, bytes_of, u32_at}
@@ -9,21 +9,20 @@ use Rattle.vol_base.specs.BytesLaws.{length-bytes_of, number_at-last}
 use Rattle.vol_base.specs.Packing.{IsPacking, Packing, numbers, packed_bytes}
 use Rattle.vol_base.specs.PackingLaws.{packing_of-packed_bytes, u32_at-packed_bytes}
 use Rattle.vol_layout.specs.declared.geometry.Geometry.{Geometry}
-use Rattle.vol_layout.specs.declared.kind.Kind.TheVariants as kinds
 use Rattle.vol_layout.specs.declared.kind.Table.{Table}
 use Rattle.vol_layout.specs.declared.kind.Table.TheVariants as tables
 use Rattle.vol_layout.specs.declared.field.Field.{Field}
 use Rattle.vol_layout.specs.declared.field.Field.TheVariants.{Head, Pointer, Slot, Count}
 use Rattle.vol_layout.specs.declared.field.Edit.{Edit}
-use Rattle.vol_layout.specs.EditLaws.{other_field, same_field-is, same_field-refl}
+use Rattle.vol_layout.specs.EditLaws.{other_field, same_field-is}
 use Rattle.vol_layout.specs.Edits.{edited, same_field}
-use Rattle.vol_layout.specs.Fields.{HasField, IsInRange, byte_of, entry_of, table_of}
+use Rattle.vol_layout.specs.Fields.{IsInRange, byte_of, entry_of, table_of}
 use Rattle.vol_layout.specs.Ranges.{per_table}
-use Rattle.image_view.specs.Images.{Image, block_at}
+use Rattle.image_view.specs.Images.{Image}
 use Rattle.image_view.specs.Numbers.{field}
 use Rattle.image_view.specs.Spelled.{IsTable, MayHaveWord}
 use Rattle.volume_faults.specs.Sites.{HasNumbers}
-use Rattle.volume_tables.specs.Tables.{IsPackingOf, IsSpelledTable, IsTableOf, Turns, number_at_entry, number_in, with_entry, with_number}
+use Rattle.volume_tables.specs.Tables.{IsPackingOf, IsTableOf, Turns, number_at_entry, number_in, with_entry, with_number}
 
 -- an entry is one of the table
 pub entry_fits : (n : ℕ) → n % per_table < per_table

@@ -1,6 +1,6 @@
 -- What a write of a table block or a data block changes, and what it leaves.
-use Rattle.std.proofs.Common.{◌≡◌, ◌≢◌, ◌<◌, ◌≤◌, ◌==◌, ℕ, true, false, List, [], ◌∷◌, length, refl, sym, ap, ◌∙◌, subst, arith, inl, inr}
-use Rattle.std.specs.Prelude.{All, slice_set}
+use Rattle.std.proofs.Common.{◌≡◌, ◌≢◌, ◌≤◌, ◌==◌, ℕ, false, List, [], ◌∷◌, length, refl, sym, ap, ◌∙◌, subst, arith, inl, inr}
+use Rattle.std.specs.Prelude.{All}
 use Rattle.std.proofs.lemmas.Bool.{cases_Bool, eqb-false, eqb-true}
 use Rattle.std.proofs.lemmas.List.{length-set}
 use Rattle.std.proofs.lemmas.List.Elements.{All-head, All-tail}
@@ -29,7 +29,7 @@ use Rattle.image_view.specs.Records.{IsEdited}
 use Rattle.volume_faults.specs.Sites.{IsChecked, IsOfKind, IsRight, Site}
 use Rattle.volume_faults.specs.Sites.Site.{Superblock, Size, Block, LockKey, RecordKey, RecordEdit, CountOf, PointerOf}
 use Rattle.volume_faults.specs.Faults.{IsOfStage, IsPassed}
-use Rattle.volume_tables.specs.Tables.{IsPackingOf, IsReadable, IsSpelledTable, IsTableOf, Turns, number_in}
+use Rattle.volume_tables.specs.Tables.{IsPackingOf, IsReadable, IsSpelledTable, IsTableOf, Turns}
 use Rattle.volume_tables.specs.NumberLaws.{field-number_in, spelled_table}
 
 -- the image with the table written that a packing spells

@@ -1,4 +1,4 @@
-use Rattle.std.proofs.Common.{◌≡◌, ◌∙◌, ◌*◌, ◌+◌, ap, arith, is_some, subst}
+use Rattle.std.proofs.Common.{◌∙◌, ◌*◌, ◌+◌, ap, arith, is_some, subst}
 use Rattle.std.specs.Prelude.{IfSome}
 use Rattle.shared_disk.specs.State.{State}
 use Rattle.vol_layout.specs.Ranges.{per_table}
