@@ -2,6 +2,7 @@
 ghost use Rattle.std.specs.Prelude.{◌≡◌, ◌≢◌, ◌↔◌, ◌-◌, ◌^◌, ◌≤◌, Contains, IfErr, IfSome, IsTrue, None, OnOk};
 ghost use Rattle.vol_base.specs.Faults.{Rose};
 ghost use Rattle.vol_layout.specs.Ranges.{IsGeometry};
+ghost use Rattle.vol_layout.specs.Regions.{total};
 ghost use Rattle.image_view.specs.Images.{first_block};
 ghost use Rattle.shared_disk.specs.Prefixes.{EachImage};
 ghost use Rattle.volume_opening.specs.Found.{IsFound, spelled};
@@ -26,6 +27,7 @@ use vol_layout::Geometry;
 pub fn open<D: Device>(alloc: Global, disk: &mut D, geometry: &Geometry) -> Result<(), OpenNo>
     requires { IsGeometry geometry.now }
     ensures opened { OnOk result (IsOpened geometry.now (D.state disk.old) (D.state disk.new)) }
+    ensures long { OnOk result (total geometry.now ≤ (D.state disk.old).blocks) }
     ensures refused { IfErr result (IsRefused geometry.now (D.state disk.old) (D.state disk.new)) }
     ensures no_keys { (result ≡ Err OpenNo.NoKeys) ↔ ((D.state disk.old).counter ≡ 2 ^ 59 - 1) }
     ensures failed { result ≡ Err OpenNo.Failed → Rose (D.faults disk.old) (D.faults disk.new) }
@@ -67,6 +69,7 @@ fn open_under<D: Device>(
     requires key { Contains (D.state disk.old).keys key.0 }
     requires geometry { IsGeometry geometry.now }
     ensures opened { OnOk result (IsOpened geometry.now (D.state disk.old) (D.state disk.new)) }
+    ensures long { OnOk result (total geometry.now ≤ (D.state disk.old).blocks) }
     ensures refused { IfErr result (IsRefused geometry.now (D.state disk.old) (D.state disk.new)) }
     ensures kept { IfErr result (KeepsContent (D.state disk.old).told (D.state disk.new).told) }
     ensures no_keys { result ≢ Err OpenNo.NoKeys }

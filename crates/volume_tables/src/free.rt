@@ -6,7 +6,7 @@ ghost use Rattle.vol_layout.specs.declared.field.Field.TheVariants as fields;
 ghost use Rattle.vol_layout.specs.Fields.{HasField};
 ghost use Rattle.vol_layout.specs.Ranges.{IsGeometry, per_table};
 ghost use Rattle.vol_layout.specs.Regions.{total};
-ghost use Rattle.volume_tables.specs.Free.{HasGroupTables, IsLowestFree};
+ghost use Rattle.volume_tables.specs.Free.{HasGroupTables, IsGroupPlace, IsLowestFree};
 
 use crate::access::AccessNo;
 use crate::reading::read_table;
@@ -15,8 +15,8 @@ use vol_base::{DataNo, Key, Packed};
 use vol_layout::{Geometry, PER_TABLE, Table};
 
 /// The lowest data block whose count in its table is 0; `None` exactly where no count is 0. It reads the
-/// groups' tables in order, up to the first that has such a count. `Bad` never comes where the tables of
-/// all groups are spellings in range.
+/// groups' tables in order, up to the first that has such a count. `Bad` names the table that was read
+/// last, and never comes where the tables of all groups are spellings in range.
 #[tactic(auto, unfolding(vol_layout::specs::Ranges::per_table))]
 pub fn lowest_free<D: Device>(
     disk: &mut D,
@@ -28,6 +28,7 @@ pub fn lowest_free<D: Device>(
     requires long { total geometry.now ≤ (D.state disk.old).blocks }
     ensures free { IfOk result (λ free. IfSome (D.state disk.old).told (λ told. IsLowestFree geometry.now told.image free)) }
     ensures range { IfOk result (λ free. IfSome free (λ d. HasField geometry.now (fields.Count d))) }
+    ensures place { (place : ℕ) → result ≡ Err (AccessNo.Bad place) → IsGroupPlace geometry.now place }
     ensures bad { (place : ℕ) → result ≡ Err (AccessNo.Bad place) → IfSome (D.state disk.old).told (λ told. HasGroupTables geometry.now told.image → ⊥) }
     ensures same { D.state disk.new ≡ D.state disk.old }
 
