@@ -1,5 +1,5 @@
 -- What was found in the blocks that were read, said of the image that the device tells.
-use Rattle.std.proofs.Common.{◌≡◌, ◌<◌, ◌≤◌, ℕ, List, [], ◌∷◌, Option, Some, None, Result, Ok, Err, length, refl, sym, ap, ◌∙◌, inl, inr, arith}
+use Rattle.std.proofs.Common.{◌≡◌, ◌<◌, ◌≤◌, ℕ, List, [], ◌∷◌, Option, Some, None, Result, Ok, Err, length, refl, sym, ap, ◌∙◌, arith}
 use Rattle.std.specs.Prelude.{IfOk, IfSome, IsNone, OnOk, slice_get}
 use Rattle.std.proofs.lemmas.Option.{IfSome_then, get_or_from_slice_get}
 use Rattle.vol_base.specs.Bytes.{zeros}
@@ -11,13 +11,13 @@ use Rattle.shared_disk.specs.State.{HasWholeImage, Stands, State, Told}
 use Rattle.image_view.specs.GeometryLaws.{geometry_of-spelled}
 use Rattle.image_view.specs.Images.{Image, IsBlank, first_block, geometry_of}
 use Rattle.image_view.specs.Usages.{usage_in, usage_of}
-use Rattle.image_view.specs.Valid.{IsValid, IsVolume}
 use Rattle.volume_faults.specs.declared.fault.Fault.{Fault}
 use Rattle.volume_faults.specs.declared.fault.FaultKind.TheVariants as faults
-use Rattle.volume_faults.specs.AgreeLaws.{Agrees, Agrees-sym, table_faults_same, usage_same}
-use Rattle.volume_faults.specs.Faults.{AreFaults, AreTableFaults, IsPassed}
-use Rattle.volume_faults.specs.ValidityLaws.{no_block_is_the_fault, no_superblock_is_the_fault, table_faults_are_faults, too_short_is_the_fault, valid_has_faultless_tables}
+use Rattle.volume_faults.specs.AgreeLaws.{Agrees, Agrees-sym, IsPassed_kept, table_faults_same, usage_same}
+use Rattle.volume_faults.specs.Faults.{AreFaults, AreTableFaults}
+use Rattle.volume_faults.specs.ValidityLaws.{no_block_is_the_fault, no_superblock_is_the_fault, table_faults_are_faults, too_short_is_the_fault}
 use Rattle.volume_check.specs.Metadatas.{Metadata, Passes}
+use Rattle.volume_check.specs.Readable.{IsReadable, IsReadableVolume}
 
 -- what follows of a value that a call gave
 pub if_ok_then : {T E : Type 0} (r : Result T E) {P Q : T → Type 0} → IfOk r P → ((x : T) → P x → Q x) → IfOk r Q
@@ -62,9 +62,9 @@ empty_is_not_blank s none whole =
     let long : 0 ≡ 4096 = ap length bytes ∙ length-zeros 4096 in
     absurd (omega (arith, long)))
 
-pub empty_is_no_volume : (s : State) → s.blocks ≡ 0 → HasWholeImage s → IfSome s.told (λ t. IsVolume s.counter t.image) → IsNone s.told
-empty_is_no_volume s none whole valid =
-    none_told s.told (IfSome_then s.told (both_told _ _ s.told whole valid) (λ t is.
+pub empty_is_not_readable : (s : State) → s.blocks ≡ 0 → HasWholeImage s → IfSome s.told (λ t. IsReadableVolume s.counter t.image) → IsNone s.told
+empty_is_not_readable s none whole readable =
+    none_told s.told (IfSome_then s.told (both_told _ _ s.told whole readable) (λ t is.
     let long = is.1.long in
     let some : 0 < total (geometry_of t.image) = 0_lt_total (geometry_of t.image) in
     omega (arith, long, some, is.0, none)))
@@ -110,16 +110,11 @@ told_usage s block g m stands spelled g_is agree =
     let spells : SpellsGeometry (first_block t.image) g = rw (first_is t.image block is.0) spelled in
     ap (λ (k : Geometry). usage_in k m.image) g_is ∙ sym (usage_same g t.image m.image is.1) ∙ ap (λ (k : Geometry). usage_in k t.image) (sym (geometry_of-spelled g t.image spells)))
 
-second_passed : (g : Geometry) (counter : ℕ) (image : Image) → AreTableFaults g counter image [] → IsPassed g counter image 2
-unfolding AreTableFaults
-second_passed g counter image are = elim are as (λ _. IsPassed g counter image 2) [ inl some ↦ absurd (some.0 refl) | inr none ↦ none.0 ]
-
--- of a valid image each block that was read is of its kind
+-- of a readable image each block that was read is of its kind
 pub told_passes : (s : State) (block : List ℕ) (g : Geometry) (m : Metadata) → Stands s 0 block → SpellsGeometry block g → m.geometry ≡ g → m.counter ≡ s.counter
-    → IfSome s.told (λ t. Agrees g t.image m.image) → IfSome s.told (λ t. IsVolume s.counter t.image) → IfSome s.told (λ t. Passes 2 m)
-told_passes s block g m stands spelled g_is counter_is agree valid =
-    IfSome_then s.told (both_told _ _ s.told (both_told _ _ s.told stands agree) valid) (λ t is.
+    → IfSome s.told (λ t. Agrees g t.image m.image) → IfSome s.told (λ t. IsReadableVolume s.counter t.image) → IfSome s.told (λ t. Passes 2 m)
+told_passes s block g m stands spelled g_is counter_is agree readable =
+    IfSome_then s.told (both_told _ _ s.told (both_told _ _ s.told stands agree) readable) (λ t is.
     let spells : SpellsGeometry (first_block t.image) g = rw (first_is t.image block is.0.0) spelled in
-    let of_g : IsValid g s.counter t.image = rw (geometry_of-spelled g t.image spells) at is.1 in
-    let none = table_faults_same g s.counter t.image m.image [] is.0.1 (valid_has_faultless_tables g s.counter t.image of_g) in
-    rw (g_is, counter_is) (second_passed g s.counter m.image none))
+    let of_g : IsReadable g s.counter t.image = rw (geometry_of-spelled g t.image spells) at is.1 in
+    rw (g_is, counter_is) (IsPassed_kept g s.counter t.image m.image is.0.1 2 (omega arith) of_g.blocks))

@@ -3,7 +3,6 @@ use Rattle.std.proofs.Common.{◌≡◌, ◌≤◌, ◌+◌, ◌*◌, ◌/◌, �
 use Rattle.std.specs.Prelude.{All, Contains, filter, nat_eq}
 use Rattle.std.proofs.lemmas.Bool.{cases_Bool, eqb-true, eq-eqb}
 use Rattle.std.proofs.lemmas.List.Elements.{All-head, All-tail, Contains-push, filter-append}
-use Rattle.vol_base.specs.Faults.{Rose}
 use Rattle.shared_disk.specs.Calls.{after_fence, after_register, next_key}
 use Rattle.shared_disk.specs.State.{State}
 use Rattle.volume_check.specs.Visits.{after_visit}
@@ -39,7 +38,3 @@ visited s key is reached =
 -- the new key is registered
 pub next_registered : (s : State) (key : ℕ) → key ≡ next_key 0 s → Contains (after_register 0 s).keys key
 next_registered s key is = rw is (Contains-push s.keys (next_key 0 s))
-
--- a count of faults that rose later rose from before
-pub rose_from : (a b c : ℕ) → a ≤ b → Rose b c → Rose a c
-rose_from a b c le rose = omega (arith, le, rose)

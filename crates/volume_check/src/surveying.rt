@@ -1,9 +1,9 @@
-// How much of a valid volume is used.
+// How much of a volume is used.
 ghost use Rattle.std.specs.Prelude.{◌≡◌, ◌≢◌, ◌↔◌, ◌-◌, ◌^◌, ◌≤◌, ℕ, Contains, IfOk, IfSome, IsNone, OnOk};
 ghost use Rattle.vol_base.specs.Faults.{Rose};
 ghost use Rattle.image_view.specs.Usages.{usage_in, usage_of};
-ghost use Rattle.image_view.specs.Valid.{IsVolume};
 ghost use Rattle.volume_check.specs.Metadatas.{Passes};
+ghost use Rattle.volume_check.specs.Readable.{IsReadableVolume};
 ghost use Rattle.volume_check.specs.Visits.{after_visit};
 
 use crate::metadata::{Metadata, ReadNo};
@@ -16,11 +16,12 @@ use std::alloc::Global;
 use vol_base::{Key, NoMemory};
 use vol_layout::Geometry;
 
-/// How many data blocks of a valid volume are used, and how many mappings it has. It registers a key for
-/// host 0 and fences it at its end. `Bad` names the first block that is not of its kind, which never
-/// comes where the device tells its image.
+/// How many data blocks of a volume are used, and how many mappings it has. A volume that the device tells
+/// has to be readable: its superblock, slots, journals, locks and tables are spellings in range. The survey
+/// registers a key for host 0 and fences it at its end. `Bad` names the first block that is not of its
+/// kind, which never comes where the device tells its image.
 pub fn survey<D: Device>(alloc: Global, disk: &mut D) -> Result<Usage, SurveyNo>
-    requires { IfSome (D.state disk.old).told (λ told. IsVolume (D.state disk.old).counter told.image) }
+    requires { IfSome (D.state disk.old).told (λ told. IsReadableVolume (D.state disk.old).counter told.image) }
     ensures usage { IfOk result (λ usage. IfSome (D.state disk.new).told (λ told. usage ≡ usage_of told.image)) }
     ensures bad { (place : ℕ) → result ≡ Err (SurveyNo.Bad place) → IsNone (D.state disk.old).told }
 
@@ -49,7 +50,7 @@ pub fn survey<D: Device>(alloc: Global, disk: &mut D) -> Result<Usage, SurveyNo>
 // The survey under a registered key.
 fn survey_under<D: Device>(alloc: Global, disk: &mut D, key: Key) -> Result<Usage, SurveyNo>
     requires key { Contains (D.state disk.old).keys key.0 }
-    requires valid { IfSome (D.state disk.old).told (λ told. IsVolume (D.state disk.old).counter told.image) }
+    requires readable { IfSome (D.state disk.old).told (λ told. IsReadableVolume (D.state disk.old).counter told.image) }
     ensures usage { IfOk result (λ usage. IfSome (D.state disk.old).told (λ told. usage ≡ usage_of told.image)) }
     ensures bad { (place : ℕ) → result ≡ Err (SurveyNo.Bad place) → IsNone (D.state disk.old).told }
     ensures same { D.state disk.new ≡ D.state disk.old }

@@ -204,7 +204,8 @@ Lists_kept g counter a b agrees stage xs later lists =
       order = lists.order;
     }
 
-IsPassed_kept : (g : Geometry) (counter : ℕ) (a b : Image) → Agrees g a b → (stage : ℕ) → 2 ≤ stage → IsPassed g counter a stage → IsPassed g counter b stage
+-- and so is what is passed
+pub IsPassed_kept : (g : Geometry) (counter : ℕ) (a b : Image) → Agrees g a b → (stage : ℕ) → 2 ≤ stage → IsPassed g counter a stage → IsPassed g counter b stage
 IsPassed_kept g counter a b agrees stage later passed site is =
     let was = IsOfStage_kept g b a (Agrees-sym g a b agrees) stage site later is in
     IsRight_kept g counter a b agrees site (later_stage g b stage site later is) was.1 (passed site was)

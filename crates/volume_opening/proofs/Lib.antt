@@ -5,3 +5,4 @@ pub mod SpanLaws
 pub mod FormatSteps
 pub mod OpeningSteps
 pub mod VisitSteps
+mod SlotSteps

@@ -32,7 +32,7 @@ on_ok (Err e) holds = tt
 only_visited : (s t u v : State) → t ≡ after_register 0 s → u.told ≡ t.told → v ≡ with_told u.told (after_visit s) → v ≡ after_visit s
 only_visited s t u v registered kept visit = visit ∙ ap (λ (o : Option Told). with_told o (after_visit s)) (kept ∙ ap (λ (w : State). w.told) registered)
 
-pub left_after : (s t u v : State) (result : Result (Unit {0}) OpenNo) → result ≢ Err answers.Failed → result ≢ Err answers.NoKeys
+pub left_after : {T : Type 0} (s t u v : State) (result : Result T OpenNo) → result ≢ Err answers.Failed → result ≢ Err answers.NoKeys
     → IfErr result (KeepsContent t.told u.told) → t ≡ after_register 0 s → v ≡ with_told u.told (after_visit s) → IfErr result (IsLeft s v)
 left_after s t u v (Ok x) failed keys kept registered visit = tt
 left_after s t u v (Err (answers.Geometry a b)) failed keys kept registered visit = only_visited s t u v registered kept visit

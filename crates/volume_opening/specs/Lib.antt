@@ -5,3 +5,4 @@ pub mod Found
 pub mod MisfitLaws
 pub mod OpeningLaws
 pub mod Blanked
+pub mod Slots

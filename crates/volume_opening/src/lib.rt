@@ -7,9 +7,10 @@ mod format;
 mod misfit;
 mod open_no;
 mod opening;
+mod slots;
 #[cfg(test)]
 mod tests;
 mod volume;
 
 pub use open_no::OpenNo;
-pub use opening::open;
+pub use opening::{open, open_idle};

@@ -1,5 +1,5 @@
 -- What a table block says: the packing that it spells, and the numbers of its fields.
-use Rattle.std.specs.Prelude.{◌≡◌, ◌≤◌, ℕ, List, All, Option, Some, None, length, slice_index, slice_set}
+use Rattle.std.specs.Prelude.{◌≡◌, ℕ, List, All, Option, Some, None, length, slice_index, slice_set}
 use Rattle.vol_base.specs.Bytes.{bytes_of}
 use Rattle.vol_base.specs.Packing.{IsPacking, Packing, numbers, packed_bytes}
 use Rattle.vol_layout.specs.declared.geometry.Geometry.{Geometry}
@@ -11,11 +11,8 @@ use Rattle.vol_layout.specs.Blank.{table_magic}
 use Rattle.vol_layout.specs.Edits.{edited}
 use Rattle.vol_layout.specs.Fields.{HasField, IsInRange, entry_of, table_of}
 use Rattle.vol_layout.specs.Ranges.{per_table}
-use Rattle.vol_layout.specs.Regions.{total}
-use Rattle.vol_layout.specs.Superblock.{SpellsGeometry}
-use Rattle.image_view.specs.Images.{Image, block_at, first_block}
+use Rattle.image_view.specs.Images.{Image, block_at}
 use Rattle.image_view.specs.Spelled.{IsTable, MayHaveWord}
-use Rattle.volume_faults.specs.Faults.{IsPassed}
 use Rattle.volume_faults.specs.Sites.{HasNumbers}
 
 -- the number at an entry of a packing, or its word
@@ -58,9 +55,3 @@ IsSpelledTable g image t = IsTable t (block_at g image (kinds.Table t)) × HasNu
 pub record Turns (g : Geometry) (t : Table) (es : List Edit) (old new : Packing) : Type 0 where
   pub inside : All (λ e. table_of e.field ≡ t) es
   pub numbers : (x : Field) → HasField g x → table_of x ≡ t → number_in new x ≡ edited es x (number_in old x)
-
--- a volume whose superblock, slots, journals, locks and tables are spellings in range
-pub record IsReadable (g : Geometry) (counter : ℕ) (image : Image) : Type 0 where
-  pub superblock : SpellsGeometry (first_block image) g
-  pub long : total g ≤ length image
-  pub blocks : IsPassed g counter image 2

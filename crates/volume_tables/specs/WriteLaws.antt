@@ -29,7 +29,8 @@ use Rattle.image_view.specs.Records.{IsEdited}
 use Rattle.volume_faults.specs.Sites.{IsChecked, IsOfKind, IsRight, Site}
 use Rattle.volume_faults.specs.Sites.Site.{Superblock, Size, Block, LockKey, RecordKey, RecordEdit, CountOf, PointerOf}
 use Rattle.volume_faults.specs.Faults.{IsOfStage, IsPassed}
-use Rattle.volume_tables.specs.Tables.{IsPackingOf, IsReadable, IsSpelledTable, IsTableOf, Turns}
+use Rattle.volume_check.specs.Readable.{IsReadable}
+use Rattle.volume_tables.specs.Tables.{IsPackingOf, IsSpelledTable, IsTableOf, Turns}
 use Rattle.volume_tables.specs.NumberLaws.{field-number_in, spelled_table}
 
 -- the image with the table written that a packing spells

@@ -1,11 +1,11 @@
 use Rattle.std.proofs.Common.{◌∙◌, sym}
 use Rattle.std.proofs.lemmas.Option.{IfSome_then}
-use Rattle.volume_check.proofs.ToldLaws.{empty_is_no_volume, if_ok_then, none_told, told_passes, told_usage}
+use Rattle.volume_check.proofs.ToldLaws.{empty_is_not_readable, if_ok_then, none_told, told_passes, told_usage}
 use Rattle.volume_check.proofs.surveying.survey_under.Goals as goal
 
 pub returns-then-blocks-eq0-clause-bad : goal.returns-then-blocks-eq0-clause-bad
 returns-then-blocks-eq0-clause-bad g c place is =
-    empty_is_no_volume (g.D.Device.state c.args.disk.now) (sym c.blocks-2.ensures ∙ c.if-blocks-eq0.true) (g.met.D.Device.whole_image c.args.disk.now) c.requires.valid
+    empty_is_not_readable (g.D.Device.state c.args.disk.now) (sym c.blocks-2.ensures ∙ c.if-blocks-eq0.true) (g.met.D.Device.whole_image c.args.disk.now) c.requires.readable
 
 pub returns-clause-usage : goal.returns-clause-usage
 returns-clause-usage g c =
@@ -20,5 +20,5 @@ returns-clause-bad g c place bad =
     let counter = rw c.in-Ok.ensures.same at c.in-Ok-read-2.ensures.counter in
     let image = rw c.in-Ok.ensures.same at c.in-Ok-read-2.ensures.image in
     let passes =
-    told_passes s c.in-Ok.block.0 c.in-Ok-read.geometry c.in-Ok-read-2.metadata c.in-Ok.ensures.block c.in-Ok-read.ensures.ok c.in-Ok-read-2.ensures.geometry counter image c.requires.valid in
+    told_passes s c.in-Ok.block.0 c.in-Ok-read.geometry c.in-Ok-read-2.metadata c.in-Ok.ensures.block c.in-Ok-read.ensures.ok c.in-Ok-read-2.ensures.geometry counter image c.requires.readable in
     none_told s.told (IfSome_then s.told passes (λ t all. c.surveyed.ensures.bad place bad all))

@@ -1,7 +1,7 @@
 use Rattle.volume_opening.proofs.OpeningSteps.{refused_entry, unchanged_images}
 use Rattle.volume_opening.proofs.StateLaws.{visit}
 use Rattle.volume_opening.proofs.VisitSteps.{entered_key, fence_failed, is_visited, left_after, on_ok, rose_since, still_entered}
-use Rattle.volume_opening.proofs.opening.«open».Goals as goal
+use Rattle.volume_opening.proofs.opening.visit.Goals as goal
 
 pub returns-in-Err-clause-refused : goal.returns-in-Err-clause-refused
 returns-in-Err-clause-refused g c = refused_entry _ _ _ c.in-Err.refusal c.from.result c.from.ensures c.in-Err.ensures.same

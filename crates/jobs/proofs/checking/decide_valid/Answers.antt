@@ -1,0 +1,9 @@
+use Rattle.std.proofs.lemmas.Option.{IfSome_then}
+use Rattle.image_view.specs.Images.{geometry_of}
+use Rattle.volume_check.specs.ReadableLaws.{IsReadable-valid}
+use Rattle.jobs.proofs.checking.decide_valid.Goals as goal
+
+pub survey-requires : goal.survey-requires
+survey-requires g c =
+    let s = g.D.Device.state c.args.disk.now in
+    IfSome_then s.told c.requires (λ t valid. IsReadable-valid (geometry_of t.image) s.counter t.image valid)
