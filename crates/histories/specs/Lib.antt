@@ -6,3 +6,8 @@ pub mod FrontLaws
 pub mod Joined
 pub mod Lines
 pub mod LineCalls
+pub mod Phases
+pub mod PushLaws
+pub mod EntryLaws
+pub mod AnswerLaws
+pub mod PhaseLaws

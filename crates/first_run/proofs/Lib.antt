@@ -1,0 +1,16 @@
+pub mod StoredLaws
+pub mod CreateTold
+pub mod ReadTold
+pub mod InPlaceTold
+pub mod FreshTold
+pub mod SizeTold
+pub mod RefusedTold
+pub mod LengthTold
+pub mod FreeRefused
+pub mod PaidTold
+pub mod EmptiedTold
+pub mod RemainsTold
+pub mod OwedParts
+pub mod ScannedTables
+pub mod HaltExits
+pub mod Results

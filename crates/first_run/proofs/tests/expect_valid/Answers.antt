@@ -1,0 +1,10 @@
+use Rattle.std.proofs.Common.{◌≡◌, length, arith}
+use Rattle.std.proofs.lemmas.Bool.Decides.{nat_tests}
+use Rattle.std.proofs.lemmas.List.{nil_from_length}
+use Rattle.volume_check.specs.ReadableLaws.{IsReadable-valid}
+use Rattle.first_run.proofs.tests.expect_valid.Goals as goal
+
+pub survey-requires : goal.survey-requires
+survey-requires g c =
+    let none : length c.in_ok-faults.faults.items ≡ 0 = grind (arith, nat_tests) in
+    IsReadable-valid _ _ _ (c.in_ok-faults.ensures.valid.0 (nil_from_length c.in_ok-faults.faults.items none))

@@ -1,0 +1,71 @@
+// What a run asks of its lines and its device, tested before it.
+ghost use Rattle.std.specs.Prelude.{◌≡◌, ◌<◌, ◌≤◌, ℕ, All, IfSome, IsTrue};
+ghost use Rattle.image_view.specs.HostKeys.{slot_key_at};
+ghost use Rattle.image_view.specs.Valid.{IsValid};
+ghost use Rattle.shared_disk.specs.MemDisk.{memory_of, told_of};
+ghost use Rattle.vol_layout.specs.Ranges.{IsGeometry};
+ghost use Rattle.vol_layout.specs.Regions.{total};
+ghost use Rattle.first_run.specs.Runs.{IsBuilt, IsBuiltLine};
+
+use crate::running::{Ran, run};
+use shared_disk::MemDisk;
+use std::alloc::Global;
+use vol_base::{Command, NoMemory};
+use vol_layout::{Geometry, Kind};
+use workload::Line;
+
+/// Runs lines of host 0 that are built, on an opened device without a joined host. What it is not asked
+/// for is refused as want of memory is.
+pub fn run_ready(
+    alloc: Global,
+    disk: &mut MemDisk,
+    geometry: &Geometry,
+    lines: &[Line],
+) -> Result<Ran, NoMemory>
+    requires geometry { IsGeometry geometry.now }
+    requires long { total geometry.now ≤ (memory_of disk.old).state.blocks }
+    requires valid { IsValid geometry.now (memory_of disk.old).state.counter (told_of disk.old).image }
+{
+    if lines.len() > 1000 || !are_built(geometry, lines) || !are_free(geometry, disk) {
+        return Err(NoMemory);
+    }
+    run(alloc, disk, geometry, lines)
+}
+
+fn are_built(geometry: &Geometry, lines: &[Line]) -> bool
+    ensures { IsTrue result → All (IsBuiltLine geometry.now) lines.now }
+{
+    for line in lines {
+        if line.host != 0 || !is_built(geometry, &line.command) {
+            return false;
+        }
+    }
+    true
+}
+
+fn is_built(geometry: &Geometry, command: &Command) -> bool
+    ensures { IsTrue result → IsBuilt geometry.now command.now }
+{
+    match *command {
+        Command::Join => true,
+        Command::Create(file) => file < geometry.files,
+        Command::Size(file, _) => file < geometry.files,
+        Command::Write(file, _, _) => file < geometry.files,
+        Command::Read(file, _) => file < geometry.files,
+        _ => false,
+    }
+}
+
+// Whether no slot shows a key.
+fn are_free(geometry: &Geometry, disk: &MemDisk) -> bool
+    requires geometry { IsGeometry geometry.now }
+    requires long { total geometry.now ≤ (memory_of disk.now).state.blocks }
+    ensures { IsTrue result → (h : ℕ) → h < geometry.now.hosts → slot_key_at geometry.now (told_of disk.now).image h ≡ 0 }
+{
+    for host in 0..geometry.hosts {
+        if disk.block(geometry.place(Kind::Slot(host))).u64_at(16) != 0 {
+            return false;
+        }
+    }
+    true
+}
