@@ -17,12 +17,13 @@ use Rattle.jobs.specs.declared.outcome.VolumeNo.TheVariants as refusals
 use Rattle.jobs.specs.declared.status.Status.{Status}
 use Rattle.jobs.specs.declared.status.Status.TheVariants as statuses
 use Rattle.jobs.specs.Checks.{CheckDecides, CheckRefuses, IsCheckStatus, IsReady, PrintsRefusal, PrintsValid}
-use Rattle.jobs.specs.Endings.{DiskSeen, Ends, HasRefused, IsSmooth, IsWritten, SinkSeen, disk_seen}
+use Rattle.jobs.specs.Endings.{DiskSeen, Ends, HasRefused, IsSmooth, SinkSeen, disk_seen}
 use Rattle.jobs.specs.Endings.{Told as IsTold}
 use Rattle.jobs.specs.Outcomes.{outcome_text, status_of}
+use Rattle.jobs.proofs.TellingLaws.{cut_of, told_quietly, written_of}
 
 -- what is told is not what contradicts it
-contradicted : (o : Option Told) (P Q : Told → Type 0) → ((t : Told) → P t → Q t → ⊥) → IsSomeAnd o P → IfSome o Q → ⊥
+pub contradicted : (o : Option Told) (P Q : Told → Type 0) → ((t : Told) → P t → Q t → ⊥) → IsSomeAnd o P → IfSome o Q → ⊥
 contradicted (Some t) P Q clash is other = clash t is other
 contradicted None P Q clash is other = absurd is
 
@@ -49,6 +50,7 @@ ready_not_refused s new (refusals.NoKeys counter) ready h =
     let keys = ready.keys in
     elim h.met [ inl at ↦ absurd (omega (arith, at, keys)) | inr next ↦ let at = next.0 in absurd (omega (arith, at, keys)) ]
 ready_not_refused s new (refusals.Busy key) ready h = h
+ready_not_refused s new (refusals.Held place) ready h = h
 ready_not_refused s new (refusals.Misread place) ready h = untold s.told _ ready.valid h.untold
 
 -- on such a device a check without a fault finds the volume valid, or has no memory
@@ -56,6 +58,7 @@ ready_decides : (s : State) (first : ℕ) (new : DiskSeen) (outcome : Outcome)
     → IsReady s → (Rose first new.faults → ⊥) → CheckDecides (disk_seen s first) new outcome
     → (status_of outcome ≡ statuses.Ok) ⊎ (status_of outcome ≡ statuses.Memory)
 ready_decides s first new (outcomes.Done report) ready quiet h = inl refl
+ready_decides s first new (outcomes.Unsurveyed report cause) ready quiet h = absurd h
 ready_decides s first new outcomes.Usage ready quiet h = absurd h
 ready_decides s first new (outcomes.Workload line cause) ready quiet h = absurd h
 ready_decides s first new (outcomes.Volume refusal) ready quiet h = absurd (ready_not_refused s new.state refusal ready h)
@@ -63,13 +66,6 @@ ready_decides s first new outcomes.DiskFault ready quiet h = absurd (quiet h)
 ready_decides s first new outcomes.ReadFault ready quiet h = absurd h
 ready_decides s first new outcomes.Memory ready quiet h = inr refl
 ready_decides s first new (outcomes.Geometry given found) ready quiet h = absurd h
-
--- a sink that does not refuse lets an outcome come to its status, where memory serves
-told_quietly : (before after : SinkSeen) (outcome : Outcome) (status : Status)
-    → (HasRefused before after → ⊥) → IsTold before after outcome status → (status ≡ status_of outcome) ⊎ (status ≡ statuses.Memory)
-told_quietly before after outcome status quiet (inl written) = inl written.ends
-told_quietly before after outcome status quiet (inr (inl short)) = absurd (quiet short.cause)
-told_quietly before after outcome status quiet (inr (inr unwritten)) = inr unwritten.ends
 
 pub check_completes : (s : State) (first : ℕ) (new : DiskSeen) (before after : SinkSeen) (status : Status)
     → Ends (CheckDecides (disk_seen s first) new) before after status
@@ -84,13 +80,6 @@ check_completes s first new before after status ends ready smooth =
       | inr memory ↦ inr memory
     ]
 
--- at other statuses than these two the whole text was written
-written_of : (before after : SinkSeen) (outcome : Outcome) (status : Status)
-    → (status ≡ statuses.WriteFault → ⊥) → (status ≡ statuses.Memory → ⊥) → IsTold before after outcome status → IsWritten before after outcome status
-written_of before after outcome status not_cut told_some (inl written) = written
-written_of before after outcome status not_cut told_some (inr (inl short)) = absurd (not_cut short.ends)
-written_of before after outcome status not_cut told_some (inr (inr unwritten)) = absurd (told_some unwritten.ends)
-
 -- the outcome behind the status Ok
 done_printed : (old new : DiskSeen) (before after : Option (List ℕ)) (outcome : Outcome)
     → statuses.Ok ≡ status_of outcome → CheckDecides old new outcome → Appends before after (outcome_text outcome)
@@ -102,6 +91,7 @@ done_printed old new before after (outcomes.Done report) is h text = record {
   text = let P : List ℕ → Type 0 = λ xs. Appends before after xs in subst P h.used.text text;
   left = h.left;
 }
+done_printed old new before after (outcomes.Unsurveyed report cause) is h text = absurd h
 done_printed old new before after outcomes.Usage is h text = absurd h
 done_printed old new before after (outcomes.Workload line cause) is h text = absurd h
 done_printed old new before after (outcomes.Volume refusal) is h text = absurd (let e : statuses.Ok ≡ statuses.Volume = is in cc)
@@ -121,6 +111,7 @@ refusal_printed : (old new : DiskSeen) (before after : Option (List ℕ)) (outco
     → statuses.Volume ≡ status_of outcome → CheckDecides old new outcome → Appends before after (outcome_text outcome)
     → PrintsRefusal old.state new.state before after
 refusal_printed old new before after (outcomes.Done report) is h text = absurd (let e : statuses.Volume ≡ statuses.Ok = is in cc)
+refusal_printed old new before after (outcomes.Unsurveyed report cause) is h text = absurd h
 refusal_printed old new before after outcomes.Usage is h text = absurd h
 refusal_printed old new before after (outcomes.Workload line cause) is h text = absurd h
 refusal_printed old new before after (outcomes.Volume refusal) is h text = record { refusal = refusal; refused = h; text = text }
@@ -138,6 +129,7 @@ check_refused old new before after status ends is =
 -- the outcome behind the status DiskFault
 fault_rose : (old new : DiskSeen) (outcome : Outcome) → statuses.DiskFault ≡ status_of outcome → CheckDecides old new outcome → Rose old.faults new.faults
 fault_rose old new (outcomes.Done report) is h = absurd (let e : statuses.DiskFault ≡ statuses.Ok = is in cc)
+fault_rose old new (outcomes.Unsurveyed report cause) is h = absurd h
 fault_rose old new outcomes.Usage is h = absurd h
 fault_rose old new (outcomes.Workload line cause) is h = absurd h
 fault_rose old new (outcomes.Volume refusal) is h = absurd (let e : statuses.DiskFault ≡ statuses.Volume = is in cc)
@@ -155,6 +147,7 @@ check_failed old new before after status ends is =
 -- the statuses of the outcomes that a check decides
 decided_status : (old new : DiskSeen) (outcome : Outcome) → CheckDecides old new outcome → IsCheckStatus (status_of outcome)
 decided_status old new (outcomes.Done report) h = tt
+decided_status old new (outcomes.Unsurveyed report cause) h = absurd h
 decided_status old new outcomes.Usage h = h
 decided_status old new (outcomes.Workload line cause) h = h
 decided_status old new (outcomes.Volume refusal) h = tt
@@ -173,23 +166,6 @@ pub check_status : (old new : DiskSeen) (before after : SinkSeen) (status : Stat
     → Ends (CheckDecides old new) before after status → IsCheckStatus status
 check_status old new before after status ends = told_status old new before after ends.outcome status ends.decided ends.told
 
--- no outcome has the status WriteFault
-not_decided : (outcome : Outcome) → statuses.WriteFault ≡ status_of outcome → ⊥
-not_decided (outcomes.Done report) is = let e : statuses.WriteFault ≡ statuses.Ok = is in cc
-not_decided outcomes.Usage is = let e : statuses.WriteFault ≡ statuses.Usage = is in cc
-not_decided (outcomes.Workload line cause) is = let e : statuses.WriteFault ≡ statuses.Workload = is in cc
-not_decided (outcomes.Volume refusal) is = let e : statuses.WriteFault ≡ statuses.Volume = is in cc
-not_decided outcomes.DiskFault is = let e : statuses.WriteFault ≡ statuses.DiskFault = is in cc
-not_decided outcomes.ReadFault is = let e : statuses.WriteFault ≡ statuses.ReadFault = is in cc
-not_decided outcomes.Memory is = let e : statuses.WriteFault ≡ statuses.Memory = is in cc
-not_decided (outcomes.Geometry given found) is = let e : statuses.WriteFault ≡ statuses.Geometry = is in cc
-
-refused_by : (before after : SinkSeen) (outcome : Outcome) (status : Status)
-    → IsTold before after outcome status → status ≡ statuses.WriteFault → HasRefused before after
-refused_by before after outcome status (inl written) is = absurd (not_decided outcome (sym is ∙ written.ends))
-refused_by before after outcome status (inr (inl short)) is = short.cause
-refused_by before after outcome status (inr (inr unwritten)) is = absurd (let e : statuses.WriteFault ≡ statuses.Memory = sym is ∙ unwritten.ends in cc)
-
 pub check_cut_short : (old new : DiskSeen) (before after : SinkSeen) (status : Status)
     → Ends (CheckDecides old new) before after status → status ≡ statuses.WriteFault → HasRefused before after
-check_cut_short old new before after status ends is = refused_by before after ends.outcome status ends.told is
+check_cut_short old new before after status ends is = (cut_of before after ends.outcome status ends.told is).cause

@@ -1,1 +1,8 @@
 mod CheckLaws
+mod CommandLaws
+mod ReadingLaws
+mod RunCounters
+mod RunLaws
+mod RunSteps
+mod SimLaws
+mod TellingLaws

@@ -77,11 +77,13 @@ CheckRefuses old new (refusals.Faults faults) = FindsFaults old new faults.items
 CheckRefuses old new refusals.Blank = FindsBlank old new
 CheckRefuses old new (refusals.NoKeys counter) = FindsNoKeys old counter
 CheckRefuses old new (refusals.Busy key) = ⊥
+CheckRefuses old new (refusals.Held place) = ⊥
 CheckRefuses old new (refusals.Misread place) = FindsMisread old new
 
 -- what a check decides; of a want of memory nothing is said
 abbrev pub CheckDecides : DiskSeen → DiskSeen → Outcome → Type 0
 CheckDecides old new (outcomes.Done report) = FindsValid old.state new.state report.items
+CheckDecides old new (outcomes.Unsurveyed report cause) = ⊥
 CheckDecides old new outcomes.Usage = ⊥
 CheckDecides old new (outcomes.Workload line cause) = ⊥
 CheckDecides old new (outcomes.Volume refusal) = CheckRefuses old.state new.state refusal
@@ -111,11 +113,13 @@ SurveyRefuses old new (refusals.Faults faults) = ⊥
 SurveyRefuses old new refusals.Blank = ⊥
 SurveyRefuses old new (refusals.NoKeys counter) = IsAtLast old counter
 SurveyRefuses old new (refusals.Busy key) = ⊥
+SurveyRefuses old new (refusals.Held place) = ⊥
 SurveyRefuses old new (refusals.Misread place) = FindsBad old new
 
 -- what the survey of a valid volume decides
 abbrev pub SurveyDecides : DiskSeen → DiskSeen → Outcome → Type 0
 SurveyDecides old new (outcomes.Done report) = FindsUsage old.state new.state report.items
+SurveyDecides old new (outcomes.Unsurveyed report cause) = ⊥
 SurveyDecides old new outcomes.Usage = ⊥
 SurveyDecides old new (outcomes.Workload line cause) = ⊥
 SurveyDecides old new (outcomes.Volume refusal) = SurveyRefuses old.state new.state refusal

@@ -1,4 +1,12 @@
+pub mod Built
 pub mod Checks
+pub mod Commands
 pub mod Endings
 pub mod Outcomes
+pub mod Readings
+pub mod Runs
+pub mod Seen
+pub mod Simulations
+pub mod Sources
 pub mod Statuses
+pub mod Words

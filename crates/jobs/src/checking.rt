@@ -6,7 +6,7 @@ ghost use Rattle.vol_base.specs.Faults.{Rose};
 ghost use Rattle.jobs.specs.Checks.{CheckDecides, IsCheckStatus, IsReady, PrintsRefusal, PrintsValid, SurveyDecides, valid_text};
 ghost use Rattle.jobs.specs.Endings.{Ends, HasRefused, IsSmooth, disk_seen, sink_seen};
 
-use crate::outcome::{Outcome, VolumeNo};
+use crate::outcome::{LAST_COUNTER, Outcome, VolumeNo};
 use crate::status::Status;
 use crate::telling::tell;
 use image_view::{SurveyNo, Usage};
@@ -16,9 +16,6 @@ use vol_base::NoMemory;
 use vol_io::Sink;
 use volume_check::{CheckNo, survey};
 use workload::write_numbers;
-
-// The last counter of a device, behind which it gives no key.
-const LAST_COUNTER: u64 = (1 << 59) - 1;
 
 /// Checks the volume on a device: writes `valid` and how much of the volume is used, or else what is
 /// wrong with it. It registers a key for host 0, and a second one where the volume is valid, fences each,

@@ -1,11 +1,14 @@
 // What a job decides before it writes a byte.
 ghost use Rattle.std.specs.Prelude.{◌≡◌};
-ghost use Rattle.jobs.specs.Outcomes.{status_of};
+ghost use Rattle.jobs.specs.Outcomes.{status_of, survey_status};
 
 use crate::status::Status;
 use vol_base::Key;
 use volume_faults::Fault;
 use workload::WorkloadNo;
+
+/// The last counter of a device, behind which it gives no key.
+pub const LAST_COUNTER: u64 = (1 << 59) - 1;
 
 /// Why a volume is refused.
 #[derive(Debug, Drop)]
@@ -18,8 +21,33 @@ pub enum VolumeNo {
     NoKeys(u64),
     /// A slot or a lock is held under this key.
     Busy(Key),
+    /// The slot at this place, the first that is not free, is in the way of a run.
+    Held(u64),
     /// The block at this place was not of its kind when it was read after the check.
     Misread(u64),
+}
+
+/// Why the volume that a run left gives no usage.
+#[derive(Clone, Copy, Debug, PartialEq, Eq)]
+pub enum NoSurvey {
+    /// A call of the device failed.
+    DiskFault,
+    /// The device's counter is this, its last one, so that it gives no key.
+    NoKeys(u64),
+    /// The block at this place was not of its kind when it was read after the run.
+    Misread(u64),
+}
+
+impl NoSurvey {
+    /// The status of a job that ends so.
+    pub fn status(&self) -> Status
+        ensures { result ≡ survey_status self.now }
+    {
+        match self {
+            NoSurvey::DiskFault => Status::DiskFault,
+            NoSurvey::NoKeys(_) | NoSurvey::Misread(_) => Status::Volume,
+        }
+    }
 }
 
 /// How a job ends unless the sink fails: its status, and what its text says. `docs/COMMANDS.md`,
@@ -28,6 +56,9 @@ pub enum VolumeNo {
 pub enum Outcome {
     /// The job was done, and this is its report.
     Done(Vec<u8>),
+    /// A workload was run, and this is its report without a usage: the survey behind it was refused for
+    /// this cause, whose text follows the report.
+    Unsurveyed { report: Vec<u8>, cause: NoSurvey },
     /// The words are not of the form.
     Usage,
     /// The text that was read is no workload: its first faulty line, from 1, and the cause. A text that
@@ -53,6 +84,7 @@ impl Outcome {
     {
         match self {
             Outcome::Done(_) => Status::Ok,
+            Outcome::Unsurveyed { cause, .. } => cause.status(),
             Outcome::Usage => Status::Usage,
             Outcome::Workload { .. } => Status::Workload,
             Outcome::Volume(_) => Status::Volume,

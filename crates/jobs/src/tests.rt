@@ -24,12 +24,12 @@ const SMALL: Geometry = Geometry {
 const FOUR_SHARDS: Geometry = Geometry { shards: 4, ..SMALL };
 
 // The counter behind which a device gives no key.
-const LAST: u64 = (1 << 59) - 1;
+pub(crate) const LAST: u64 = (1 << 59) - 1;
 
 // The first `blocks` blocks of a formatted volume, in which `numbers` are written at a place and byte, on a
 // device with this counter whose call of number `failing` fails.
 #[derive(Clone, Copy)]
-struct Volume<'a> {
+pub(crate) struct Volume<'a> {
     geometry: Geometry,
     blocks: u64,
     numbers: &'a [(usize, usize, u32)],
@@ -48,7 +48,7 @@ fn put(blocks: &mut [Block], place: usize, at: usize, number: u32) {
     }
 }
 
-fn disk_of(alloc: Global, volume: &Volume) -> Result<MemDisk, NoMemory> {
+pub(crate) fn disk_of(alloc: Global, volume: &Volume) -> Result<MemDisk, NoMemory> {
     let geometry = volume.geometry;
     let mut blocks = Vec::new(alloc);
     if geometry.is_in_range() {
@@ -76,7 +76,7 @@ fn small<'a>(numbers: &'a [(usize, usize, u32)]) -> Volume<'a> {
 }
 
 // The volume on which host 0 joined, made file 0 with two blocks and wrote the first of them.
-fn written<'a>(blocks: u64, numbers: &'a [(usize, usize, u32)]) -> Volume<'a> {
+pub(crate) fn written<'a>(blocks: u64, numbers: &'a [(usize, usize, u32)]) -> Volume<'a> {
     Volume {
         geometry: FOUR_SHARDS,
         blocks,

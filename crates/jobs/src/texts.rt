@@ -1,8 +1,8 @@
 // The text of each outcome.
 ghost use Rattle.std.specs.Prelude.{◌≡◌, ◌++◌, ◌∷◌, [], IfOk};
-ghost use Rattle.jobs.specs.Outcomes.{busy_line, cause_word, geometry_line, keys_line, outcome_text, refusal_text, workload_line};
+ghost use Rattle.jobs.specs.Outcomes.{busy_line, cause_word, geometry_line, keys_line, outcome_text, refusal_text, spelling_line, survey_text, workload_line};
 
-use crate::outcome::{Outcome, VolumeNo};
+use crate::outcome::{NoSurvey, Outcome, VolumeNo};
 use std::alloc::Global;
 use vol_base::NoMemory;
 use volume_faults::{Fault, FaultKind};
@@ -14,6 +14,7 @@ pub fn text_of(alloc: Global, outcome: Outcome) -> Result<Vec<u8>, NoMemory>
 {
     match outcome {
         Outcome::Done(report) => Ok(report),
+        Outcome::Unsurveyed { report, cause } => unsurveyed_text(alloc, report, cause),
         Outcome::Usage => line(alloc, "usage: dede VOLUME JOB [ARGS]"),
         Outcome::Workload { line, cause } => workload_line(alloc, line, cause),
         Outcome::Volume(refusal) => refusal_text(alloc, refusal),
@@ -32,12 +33,34 @@ fn refusal_text(alloc: Global, refusal: VolumeNo) -> Result<Vec<u8>, NoMemory>
         VolumeNo::Blank => line(alloc, "volume block 0: blank"),
         VolumeNo::NoKeys(counter) => keys_line(alloc, counter),
         VolumeNo::Busy(key) => busy_line(alloc, key.0),
-        VolumeNo::Misread(place) => misread_text(alloc, place),
+        VolumeNo::Held(place) | VolumeNo::Misread(place) => spelling_line(alloc, place),
     }
 }
 
-fn misread_text(alloc: Global, place: u64) -> Result<Vec<u8>, NoMemory>
-    ensures { IfOk result (λ bytes. bytes.items ≡ refusal_text (VolumeNo.Misread place)) }
+// A report, and behind it why the survey was refused.
+fn unsurveyed_text(alloc: Global, report: Vec<u8>, cause: NoSurvey) -> Result<Vec<u8>, NoMemory>
+    ensures { IfOk result (λ bytes. bytes.items ≡ report.items ++ survey_text cause) }
+{
+    let mut text = report;
+    let more = survey_text(alloc, cause)?;
+    match text.extend_from_slice(&more) {
+        Ok(()) => Ok(text),
+        Err(_) => Err(NoMemory),
+    }
+}
+
+fn survey_text(alloc: Global, cause: NoSurvey) -> Result<Vec<u8>, NoMemory>
+    ensures { IfOk result (λ bytes. bytes.items ≡ survey_text cause) }
+{
+    match cause {
+        NoSurvey::DiskFault => line(alloc, "disk fault"),
+        NoSurvey::NoKeys(counter) => keys_line(alloc, counter),
+        NoSurvey::Misread(place) => spelling_line(alloc, place),
+    }
+}
+
+fn spelling_line(alloc: Global, place: u64) -> Result<Vec<u8>, NoMemory>
+    ensures { IfOk result (λ bytes. bytes.items ≡ spelling_line place) }
 {
     let kind = FaultKind::Spelling;
     volume_faults::text(alloc, &[Fault { place, kind }])

@@ -1,0 +1,58 @@
+//! The program `dede`: one job on one volume. `docs/COMMANDS.md` has its words, texts and statuses.
+#![tactic(auto)]
+
+use file_disk::FileDisk;
+use jobs::{Status, job_of, top};
+use std::alloc::Global;
+use std::env;
+use std::io::ErrorKind;
+use std::process::ExitCode;
+use vol_base::{FreeGate, NoMemory};
+use vol_io::{StdSink, StdSource};
+
+fn main(rt: HostRuntime) -> ExitCode {
+    let status = match run(&rt) {
+        Ok(status) => status,
+        Err(NoMemory) => Status::Memory,
+    };
+    ExitCode::from(status.code())
+}
+
+// Does the job of the command line over the real input, output and file.
+fn run(rt: &HostRuntime) -> Result<Status, NoMemory> {
+    let words = words(rt)?;
+    let disk = FileDisk::new(rt, rt.alloc(), volume(&words))?;
+    let mut source = StdSource::new(rt.stdin());
+    let mut sink = StdSink::new(rt.stdout());
+    let (status, _disk) = top(
+        rt,
+        rt.alloc(),
+        &words,
+        &mut source,
+        &mut sink,
+        disk,
+        &FreeGate,
+    );
+    Ok(status)
+}
+
+// The words behind the program's name. Where one is no text there are none, so that they are of no form.
+fn words(rt: &HostRuntime) -> Result<Vec<String>, NoMemory> {
+    let words = match env::args(rt) {
+        Ok(words) => words,
+        Err(error) if error.kind() == ErrorKind::OutOfMemory => return Err(NoMemory),
+        Err(_) => return Ok(Vec::new(rt.alloc())),
+    };
+    match words.skip(1).collect(rt.alloc()) {
+        Ok(words) => Ok(words),
+        Err(_) => Err(NoMemory),
+    }
+}
+
+// The path of the volume's file. Words that are of no form have the empty path, so that they make no file.
+fn volume(words: &[String]) -> &str {
+    match (job_of(words), words.first()) {
+        (Some(_), Some(path)) => path.as_str(),
+        _ => "",
+    }
+}

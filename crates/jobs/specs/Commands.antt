@@ -1,0 +1,59 @@
+-- How the program ends, by its words.
+use Rattle.std.specs.Prelude.{◌≡◌, ◌⊎◌, Option, Some, None}
+use Rattle.std.specs.Io.KnownBytes.{Appends}
+use Rattle.vol_base.specs.Faults.{Rose}
+use Rattle.jobs.specs.declared.outcome.Outcome.TheVariants as outcomes
+use Rattle.jobs.specs.declared.status.Status.{Status}
+use Rattle.jobs.specs.declared.status.Status.TheVariants as statuses
+use Rattle.jobs.specs.declared.words.Job.{Job}
+use Rattle.jobs.specs.declared.words.Job.TheVariants.{Sim, Check}
+use Rattle.jobs.specs.Checks.{CheckDecides, IsCheckStatus, IsReady, PrintsRefusal, PrintsValid}
+use Rattle.jobs.specs.Endings.{Ends, HasRefused, IsSmooth, Told}
+use Rattle.jobs.specs.Outcomes.{outcome_text}
+use Rattle.jobs.specs.Seen.{Seen}
+use Rattle.jobs.specs.Simulations.{SimEnds}
+
+-- the job that checks a volume ends with this status
+pub record CheckEnds (before after : Seen) (status : Status) : Type 0 where
+  -- an outcome is decided, and then told
+  pub ends : Ends (CheckDecides before.disk after.disk) before.sink after.sink status
+  -- so each status has its cause
+  pub among : IsCheckStatus status
+  pub ok : status ≡ statuses.Ok → PrintsValid before.disk.state after.disk.state before.sink.taken after.sink.taken
+  pub volume : status ≡ statuses.Volume → PrintsRefusal before.disk.state after.disk.state before.sink.taken after.sink.taken
+  pub disk_fault : status ≡ statuses.DiskFault → Rose before.disk.faults after.disk.faults
+  pub write_fault : status ≡ statuses.WriteFault → HasRefused before.sink after.sink
+  -- whatever the status, the source is untouched, and the device holds what it held
+  pub source : after.source ≡ before.source
+  pub told : after.disk.state.told ≡ before.disk.state.told
+  pub blocks : after.disk.state.blocks ≡ before.disk.state.blocks
+  -- without a fault a valid volume is found valid, where memory serves
+  pub complete : IsReady before.disk.state → IsSmooth before.disk after.disk before.sink after.sink
+      → (status ≡ statuses.Ok) ⊎ (status ≡ statuses.Memory)
+
+-- the statuses of words that are of no form
+abbrev pub IsUsageStatus : Status → Type 0
+IsUsageStatus statuses.Ok = ⊥
+IsUsageStatus statuses.Usage = Unit {0}
+IsUsageStatus statuses.Workload = ⊥
+IsUsageStatus statuses.Volume = ⊥
+IsUsageStatus statuses.DiskFault = ⊥
+IsUsageStatus statuses.ReadFault = ⊥
+IsUsageStatus statuses.WriteFault = Unit {0}
+IsUsageStatus statuses.Memory = Unit {0}
+IsUsageStatus statuses.Geometry = ⊥
+
+-- words that are of no form end with this status: source and device are untouched
+pub record UsageEnds (before after : Seen) (status : Status) : Type 0 where
+  pub told : Told before.sink after.sink outcomes.Usage status
+  pub among : IsUsageStatus status
+  pub usage : status ≡ statuses.Usage → Appends before.sink.taken after.sink.taken (outcome_text outcomes.Usage)
+  pub write_fault : status ≡ statuses.WriteFault → HasRefused before.sink after.sink
+  pub source : after.source ≡ before.source
+  pub disk : after.disk ≡ before.disk
+
+-- the program ends with this status, by the job that its words ask for
+abbrev pub CommandEnds : Option Job → Seen → Seen → Status → Type 0
+CommandEnds None = UsageEnds
+CommandEnds (Some Sim) = SimEnds
+CommandEnds (Some Check) = CheckEnds

@@ -1,0 +1,13 @@
+-- What is answered for a text.
+use Rattle.std.specs.Prelude.{◌≡◌, Result, Ok, Err}
+use Rattle.workload.specs.declared.line.Workload.{Workload}
+use Rattle.workload.specs.Grammar.{Refusal}
+use Rattle.jobs.specs.declared.outcome.Outcome.{Outcome}
+use Rattle.jobs.specs.declared.outcome.Outcome.TheVariants as outcomes
+
+-- what is answered is what the text says, unless memory was refused
+abbrev pub Answers : Result Workload Refusal → Result Workload Outcome → Type 0
+Answers says (Ok workload) = says ≡ Ok workload
+Answers says (Err (outcomes.Workload line cause)) = says ≡ Err (line, cause)
+Answers says (Err outcomes.Memory) = Unit {0}
+Answers says (Err _) = ⊥

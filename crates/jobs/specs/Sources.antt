@@ -1,0 +1,39 @@
+-- What a source gives to be run.
+use Rattle.std.specs.Prelude.{◌≡◌, ◌⊎◌, ◌<◌, ℕ, List, Option, Ok, Err, length}
+use Rattle.std.specs.Io.KnownBytes.{Consumes, IsAtEnd}
+use Rattle.vol_base.specs.Faults.{Rose}
+use Rattle.workload.specs.declared.cause.WorkloadNo.{WorkloadNo}
+use Rattle.workload.specs.declared.line.Workload.{Workload}
+use Rattle.workload.specs.Grammar.{most_bytes}
+use Rattle.jobs.specs.declared.outcome.Outcome.{Outcome}
+use Rattle.jobs.specs.declared.outcome.Outcome.TheVariants as outcomes
+use Rattle.jobs.specs.Built.{built_workload_of}
+
+-- a source: the bytes that are left, where it tells them, and how often it failed
+pub record SourceSeen : Type 0 where
+  pub left : Option (List ℕ)
+  pub faults : ℕ
+
+abbrev pub source_seen : Option (List ℕ) → ℕ → SourceSeen
+source_seen left faults = record { left = left; faults = faults }
+
+-- the source was read to its end, and the text that it gave is that of this workload, each line of which is built
+pub record IsRead (before after : SourceSeen) (workload : Workload) : Type 0 where
+  pub text : List ℕ
+  pub consumed : Consumes before.left after.left text
+  pub ended : IsAtEnd after.left
+  pub is : built_workload_of text ≡ Ok workload
+
+-- the text that the source gave is refused at this line for this cause; it is all that was left, or already too long
+pub record IsRefusedText (before after : SourceSeen) (line : ℕ) (cause : WorkloadNo) : Type 0 where
+  pub text : List ℕ
+  pub consumed : Consumes before.left after.left text
+  pub whole : IsAtEnd after.left ⊎ (most_bytes < length text)
+  pub is : built_workload_of text ≡ Err (line, cause)
+
+-- why no workload was read
+abbrev pub StopsReading : SourceSeen → SourceSeen → Outcome → Type 0
+StopsReading before after (outcomes.Workload line cause) = IsRefusedText before after line cause
+StopsReading before after outcomes.ReadFault = Rose before.faults after.faults
+StopsReading before after outcomes.Memory = Unit {0}
+StopsReading before after _ = ⊥

@@ -1,0 +1,42 @@
+// The jobs by the words of the command line.
+ghost use Rattle.std.specs.Prelude.{◌≡◌, map, string_bytes};
+ghost use Rattle.jobs.specs.Commands.{CheckEnds, CommandEnds, UsageEnds};
+ghost use Rattle.jobs.specs.Endings.{disk_seen, sink_seen};
+ghost use Rattle.jobs.specs.Seen.{seen};
+ghost use Rattle.jobs.specs.Sources.{source_seen};
+ghost use Rattle.jobs.specs.Words.{job_of};
+
+use crate::checking::check;
+use crate::outcome::Outcome;
+use crate::simulating::sim;
+use crate::status::Status;
+use crate::telling::tell;
+use crate::words::{Job, job_of};
+use shared_disk::Device;
+use std::alloc::Global;
+use vol_io::{Sink, Source};
+
+/// Does the job that the words behind the program's name ask for, on this device, and hands it back.
+/// Words that are of no form have the usage written, and then nothing else is touched.
+pub fn command<S: Source, K: Sink, D: Device>(
+    alloc: Global,
+    words: &[String],
+    source: &mut S,
+    sink: &mut K,
+    disk: D,
+) -> (Status, D)
+    ensures { CommandEnds (job_of (map string_bytes words.now))
+        (seen (source_seen (S.left source.old) (S.faults source.old))
+        (disk_seen (D.state disk) (D.faults disk))
+        (sink_seen (K.taken sink.old) (K.faults sink.old) (K.refusals sink.old)))
+        (seen (source_seen (S.left source.new) (S.faults source.new))
+        (disk_seen (D.state result.1) (D.faults result.1))
+        (sink_seen (K.taken sink.new) (K.faults sink.new) (K.refusals sink.new)))
+        result.0 }
+{
+    match job_of(words) {
+        Some(Job::Sim) => sim(alloc, source, sink, disk),
+        Some(Job::Check) => check(alloc, sink, disk),
+        None => (tell(alloc, sink, Outcome::Usage), disk),
+    }
+}

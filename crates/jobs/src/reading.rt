@@ -1,0 +1,111 @@
+// The workload that a source gives.
+ghost use Rattle.std.specs.Prelude.{◌≡◌, ◌<◌, ◌≤◌, ◌^◌, All, IfErr, IfOk, find, length, not};
+ghost use Rattle.vol_layout.specs.Ranges.{IsGeometry};
+ghost use Rattle.first_run.specs.Runs.{IsBuiltLine};
+ghost use Rattle.histories.specs.Phases.{ArePhased};
+ghost use Rattle.jobs.specs.Built.{built_workload_of, first_unbuilt, first_unbuilt_line, is_built, is_built_command};
+ghost use Rattle.jobs.specs.Readings.{Answers};
+ghost use Rattle.jobs.specs.Sources.{IsRead, StopsReading, source_seen};
+
+use crate::outcome::Outcome;
+use std::alloc::Global;
+use vol_base::Command;
+use vol_io::{ReadNo, Source, read_all};
+use workload::{Line, ParseNo, Workload, WorkloadNo, parse};
+
+// The most bytes of a workload's text.
+const MOST_BYTES: usize = 1_048_576;
+
+// Reads the source to its end, and gives the workload of its text; or else the outcome with which the
+// job ends. A line that is not built yet is refused as a word that is no command.
+pub fn read_workload<S: Source>(alloc: Global, source: &mut S) -> Result<Workload, Outcome>
+    ensures ok { IfOk result (IsRead (source_seen (S.left source.old) (S.faults source.old))
+        (source_seen (S.left source.new) (S.faults source.new))) }
+    ensures err { IfErr result (StopsReading (source_seen (S.left source.old) (S.faults source.old))
+        (source_seen (S.left source.new) (S.faults source.new))) }
+    ensures later { S.faults source.old ≤ S.faults source.new }
+    ensures geometry { IfOk result (λ workload. IsGeometry workload.geometry) }
+    ensures lines { IfOk result (λ workload. All (IsBuiltLine workload.geometry) workload.lines) }
+    ensures few { IfOk result (λ workload. length workload.lines < 2 ^ 32) }
+    ensures phased { IfOk result (λ workload. ArePhased workload.lines) }
+{
+    let text = match read_all(alloc, source, MOST_BYTES) {
+        Ok(text) => text,
+        Err(ReadNo::Failed) => return Err(Outcome::ReadFault),
+        Err(ReadNo::Long) => return Err(refused(0, WorkloadNo::Long)),
+        Err(ReadNo::NoMemory) => return Err(Outcome::Memory),
+    };
+    built_workload(alloc, &text)
+}
+
+fn refused(line: u32, cause: WorkloadNo) -> Outcome
+    ensures { result ≡ Outcome.Workload line cause }
+{
+    Outcome::Workload { line, cause }
+}
+
+// The workload of a text, each line of which is built.
+#[tactic(auto, unfolding(crate::specs::Built::built_workload_of))]
+fn built_workload(alloc: Global, text: &[u8]) -> Result<Workload, Outcome>
+    ensures is { Answers (built_workload_of text.now) result }
+    ensures geometry { IfOk result (λ workload. IsGeometry workload.geometry) }
+    ensures lines { IfOk result (λ workload. All (IsBuiltLine workload.geometry) workload.lines) }
+    ensures few { IfOk result (λ workload. length workload.lines < 2 ^ 32) }
+    ensures phased { IfOk result (λ workload. ArePhased workload.lines) }
+{
+    let workload = match parse(alloc, text) {
+        Ok(workload) => workload,
+        Err(ParseNo::Refused { line, cause }) => return Err(refused(line, cause)),
+        Err(ParseNo::NoMemory) => return Err(Outcome::Memory),
+    };
+    match first_unbuilt(&workload) {
+        Some(line) => Err(refused(line, WorkloadNo::Word)),
+        None => Ok(workload),
+    }
+}
+
+// The number, in the text, of the first line that is not built.
+fn first_unbuilt(workload: &Workload) -> Option<u32>
+    ensures { result ≡ first_unbuilt workload.now }
+{
+    if workload.geometry.tables == 1 {
+        first_unbuilt_line(workload.lines.as_slice())
+    } else {
+        Some(1)
+    }
+}
+
+#[tactic(auto, unfolding(crate::specs::Built::first_unbuilt_line))]
+fn first_unbuilt_line(lines: &[Line]) -> Option<u32>
+    ensures { result ≡ first_unbuilt_line lines.now }
+{
+    match find_unbuilt(lines) {
+        Some(line) => Some(line.at),
+        None => None,
+    }
+}
+
+fn find_unbuilt(lines: &[Line]) -> Option<Line>
+    ensures { result ≡ find (λ line. not (is_built line)) lines.now }
+{
+    lines.iter().copied().find(|line| !is_built(line))
+}
+
+fn is_built(line: &Line) -> bool
+    ensures { result ≡ is_built line.now }
+{
+    line.host == 0 && is_built_command(&line.command)
+}
+
+fn is_built_command(command: &Command) -> bool
+    ensures { result ≡ is_built_command command.now }
+{
+    match *command {
+        Command::Join
+        | Command::Create(_)
+        | Command::Size(_, _)
+        | Command::Write(_, _, _)
+        | Command::Read(_, _) => true,
+        _ => false,
+    }
+}
