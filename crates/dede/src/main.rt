@@ -11,21 +11,13 @@ use vol_base::{FreeGate, NoMemory};
 use vol_io::{StdSink, StdSource};
 
 fn main(rt: HostRuntime) -> ExitCode {
-    let status = match run(&rt) {
-        Ok(status) => status,
-        Err(NoMemory) => Status::Memory,
+    let Ok((words, disk)) = command_line(&rt) else {
+        return ExitCode::from(Status::Memory.code());
     };
-    ExitCode::from(status.code())
-}
-
-// Does the job of the command line over the real input, output and file.
-fn run(rt: &HostRuntime) -> Result<Status, NoMemory> {
-    let words = words(rt)?;
-    let disk = FileDisk::new(rt, rt.alloc(), volume(&words))?;
     let mut source = StdSource::new(rt.stdin());
     let mut sink = StdSink::new(rt.stdout());
     let (status, _disk) = top(
-        rt,
+        &rt,
         rt.alloc(),
         &words,
         &mut source,
@@ -33,7 +25,14 @@ fn run(rt: &HostRuntime) -> Result<Status, NoMemory> {
         disk,
         &FreeGate,
     );
-    Ok(status)
+    ExitCode::from(status.code())
+}
+
+// The words of the command line, and the device over the file that they name.
+fn command_line(rt: &HostRuntime) -> Result<(Vec<String>, FileDisk), NoMemory> {
+    let words = words(rt)?;
+    let disk = FileDisk::new(rt, rt.alloc(), volume(&words))?;
+    Ok((words, disk))
 }
 
 // The words behind the program's name. Where one is no text there are none, so that they are of no form.

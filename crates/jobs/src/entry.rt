@@ -10,12 +10,14 @@ use crate::commands::command;
 use crate::status::Status;
 use shared_disk::Device;
 use std::alloc::Global;
+use std::sync::Wait;
+use std::thread::Threads;
 use vol_base::Gate;
 use vol_io::{Sink, Source};
 
 /// Does the job that the words behind the program's name ask for, on this device, and hands it back. No
 /// job starts threads yet, so the runtime is not used, and nothing passes the gate.
-pub fn top<R: Sync, S: Source, K: Sink, D: Device + Send, G: Gate + Sync>(
+pub fn top<R: Threads + Wait + Sync, S: Source, K: Sink, D: Device + Send, G: Gate + Sync>(
     _rt: &R,
     alloc: Global,
     words: &[String],
