@@ -1,7 +1,6 @@
 // The job that checks a volume.
-ghost use Rattle.std.specs.Prelude.{◌≡◌, ◌++◌, ◌∷◌, [], ◌⊎◌, IfOk, IfSome, OnOk, string_bytes};
+ghost use Rattle.std.specs.Prelude.{◌≡◌, ◌⊎◌, IfOk, IfSome};
 ghost use Rattle.image_view.specs.Valid.{IsVolume};
-ghost use Rattle.report.specs.Reports.{usage_line};
 ghost use Rattle.vol_base.specs.Faults.{Rose};
 ghost use Rattle.jobs.specs.Checks.{CheckDecides, IsCheckStatus, IsReady, PrintsRefusal, PrintsValid, SurveyDecides, valid_text};
 ghost use Rattle.jobs.specs.Endings.{Ends, HasRefused, IsSmooth, disk_seen, sink_seen};
@@ -10,12 +9,12 @@ use crate::outcome::{LAST_COUNTER, Outcome, VolumeNo};
 use crate::status::Status;
 use crate::telling::tell;
 use image_view::{SurveyNo, Usage};
+use report::write_usage_line;
 use shared_disk::Device;
-use std::alloc::{AllocError, Global};
+use std::alloc::Global;
 use vol_base::NoMemory;
 use vol_io::Sink;
 use volume_check::{CheckNo, survey};
-use workload::write_numbers;
 
 /// Checks the volume on a device: writes `valid` and how much of the volume is used, or else what is
 /// wrong with it. It registers a key for host 0, and a second one where the volume is valid, fences each,
@@ -102,14 +101,4 @@ fn valid_text(alloc: Global, usage: &Usage) -> Result<Vec<u8>, NoMemory>
     text.push_str("valid\n")?;
     write_usage_line(&mut text, usage)?;
     Ok(text.into_bytes())
-}
-
-fn write_usage_line(text: &mut String, usage: &Usage) -> Result<(), AllocError>
-    ensures { OnOk result (string_bytes text.new ≡ string_bytes text.old ++ (usage_line usage.now ++ 10 ∷ [])) }
-{
-    text.push_str("used")?;
-    write_numbers(text, &[u64::from(usage.used)])?;
-    text.push_str(" mapped")?;
-    write_numbers(text, &[u64::from(usage.mapped)])?;
-    text.push_str("\n")
 }

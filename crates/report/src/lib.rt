@@ -6,7 +6,7 @@ mod answers;
 mod contents;
 mod lines;
 
-pub use lines::text;
+pub use lines::{text, write_usage_line};
 
 #[cfg(test)]
 mod tests;

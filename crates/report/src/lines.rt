@@ -121,7 +121,8 @@ fn write_usage(text: &mut String, usage: Option<&Usage>) -> Result<(), AllocErro
     }
 }
 
-fn write_usage_line(text: &mut String, usage: &Usage) -> Result<(), AllocError>
+/// Writes the line of a usage.
+pub fn write_usage_line(text: &mut String, usage: &Usage) -> Result<(), AllocError>
     ensures { OnOk result (string_bytes text.new ≡ string_bytes text.old ++ (usage_line usage.now ++ 10 ∷ [])) }
 {
     write_word(text, "used", &[u64::from(usage.used)])?;
