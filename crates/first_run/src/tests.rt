@@ -10,7 +10,7 @@ use std::test::Fail;
 use vol_base::{Answer, Block, CutBy, Key, NoMemory, PlainReply, number_block};
 use vol_layout::Geometry;
 use volume_check::{check, survey};
-use volume_opening::open;
+use volume_opening::open_idle;
 use workload::parse;
 
 // Slots 1 and 2, journals 3 and 4, locks 5 to 10, file tables 11 to 14, the group's table 15, the part's 16,
@@ -61,8 +61,8 @@ fn run_on(alloc: Global, disk: &mut MemDisk, commands: &str) -> Result<Ran, Fail
     let mut text = String::from_str(alloc, "volume 2 4 1 1 4 1\n")?;
     text.push_str(commands)?;
     let workload = parse(alloc, text.as_bytes())?;
-    open(alloc, disk, &GEOMETRY)?;
-    Ok(run_ready(alloc, disk, &GEOMETRY, workload.lines.as_slice())?)
+    let held = open_idle(alloc, disk, &GEOMETRY)?;
+    Ok(run_ready(alloc, disk, &GEOMETRY, held, workload.lines.as_slice())?)
 }
 
 fn expect_run(rt: &impl Abort, ran: &Ran, answers: &[Answer], history: &[u32]) {

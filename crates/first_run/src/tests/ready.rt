@@ -1,35 +1,39 @@
 // What a run asks of its lines and its device, tested before it.
-ghost use Rattle.std.specs.Prelude.{◌≡◌, ◌<◌, ◌≤◌, ℕ, All, IfSome, IsTrue};
-ghost use Rattle.image_view.specs.HostKeys.{slot_key_at};
+ghost use Rattle.std.specs.Prelude.{◌≡◌, ◌≤◌, All, IsTrue};
 ghost use Rattle.image_view.specs.Valid.{IsValid};
 ghost use Rattle.shared_disk.specs.MemDisk.{memory_of, told_of};
 ghost use Rattle.vol_layout.specs.Ranges.{IsGeometry};
 ghost use Rattle.vol_layout.specs.Regions.{total};
+ghost use Rattle.volume_opening.specs.Slots.{TellsSlots};
 ghost use Rattle.first_run.specs.Runs.{IsBuilt, IsBuiltLine};
 
 use crate::running::{Ran, run};
 use shared_disk::MemDisk;
 use std::alloc::Global;
 use vol_base::{Command, NoMemory};
-use vol_layout::{Geometry, Kind};
+use vol_layout::Geometry;
 use workload::Line;
 
-/// Runs lines of host 0 that are built, on an opened device without a joined host. What it is not asked
-/// for is refused as want of memory is.
+/// Runs lines of host 0 that are built, on an opened device; `held` is what the opening told of its slots.
+/// A slot that is not free, and lines that a run does not take, are refused as want of memory is.
 pub fn run_ready(
     alloc: Global,
     disk: &mut MemDisk,
     geometry: &Geometry,
+    held: Option<u64>,
     lines: &[Line],
 ) -> Result<Ran, NoMemory>
     requires geometry { IsGeometry geometry.now }
     requires long { total geometry.now ≤ (memory_of disk.old).state.blocks }
     requires valid { IsValid geometry.now (memory_of disk.old).state.counter (told_of disk.old).image }
+    requires slots { TellsSlots geometry.now (told_of disk.old).image held }
 {
-    if lines.len() > 1000 || !are_built(geometry, lines) || !are_free(geometry, disk) {
-        return Err(NoMemory);
+    match held {
+        None if lines.len() <= 1000 && are_built(geometry, lines) => {
+            run(alloc, disk, geometry, lines)
+        }
+        _ => Err(NoMemory),
     }
-    run(alloc, disk, geometry, lines)
 }
 
 fn are_built(geometry: &Geometry, lines: &[Line]) -> bool
@@ -54,18 +58,4 @@ fn is_built(geometry: &Geometry, command: &Command) -> bool
         Command::Read(file, _) => file < geometry.files,
         _ => false,
     }
-}
-
-// Whether no slot shows a key.
-fn are_free(geometry: &Geometry, disk: &MemDisk) -> bool
-    requires geometry { IsGeometry geometry.now }
-    requires long { total geometry.now ≤ (memory_of disk.now).state.blocks }
-    ensures { IsTrue result → (h : ℕ) → h < geometry.now.hosts → slot_key_at geometry.now (told_of disk.now).image h ≡ 0 }
-{
-    for host in 0..geometry.hosts {
-        if disk.block(geometry.place(Kind::Slot(host))).u64_at(16) != 0 {
-            return false;
-        }
-    }
-    true
 }
