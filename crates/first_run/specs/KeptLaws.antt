@@ -1,15 +1,14 @@
 -- Volumes between two commands: where they begin and what they end as.
-use Rattle.std.proofs.Common.{◌≡◌, ◌≢◌, ◌<◌, ◌≤◌, ◌+◌, ℕ, zero, suc, List, [], ◌∷◌, refl, ap, inl, inr, arith}
+use Rattle.std.proofs.Common.{◌≡◌, ◌≢◌, ◌<◌, ◌≤◌, ◌+◌, ℕ, zero, suc, List, [], ◌∷◌, refl, ap, arith}
 use Rattle.std.specs.List.{flat_map, range_with_len}
 use Rattle.vol_layout.specs.declared.geometry.Geometry.{Geometry}
-use Rattle.vol_layout.specs.declared.kind.Kind.{Kind}
 use Rattle.vol_layout.specs.declared.kind.Kind.TheVariants as kinds
 use Rattle.vol_layout.specs.declared.field.Field.{Field}
 use Rattle.vol_layout.specs.declared.field.Edit.{Edit}
 use Rattle.vol_layout.specs.Edits.{edited}
 use Rattle.vol_layout.specs.Fields.{table_of}
 use Rattle.image_view.specs.FrameLaws.{HasTable-table_of}
-use Rattle.image_view.specs.Images.{Image, block_at}
+use Rattle.image_view.specs.Images.{Image}
 use Rattle.image_view.specs.Numbers.{field, journal, logical, standing}
 use Rattle.image_view.specs.Valid.{IsValid}
 use Rattle.volume_faults.specs.Sites.Site.{Block}

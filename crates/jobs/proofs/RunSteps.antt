@@ -24,7 +24,7 @@ use Rattle.image_view.specs.declared.usage.Usage.{Usage}
 use Rattle.image_view.specs.Usages.{usage_of}
 use Rattle.image_view.specs.Valid.{IsValid}
 use Rattle.histories.specs.Fit.{Fits}
-use Rattle.volume_check.specs.Visits.{after_visit}
+use Rattle.volume_check.specs.Visits.{IsVisiting, after_visit}
 use Rattle.volume_opening.specs.declared.open_no.OpenNo.{OpenNo}
 use Rattle.volume_opening.specs.declared.open_no.OpenNo.TheVariants as openings
 use Rattle.volume_opening.specs.OpeningLaws.{opening_keeps_files}
@@ -209,13 +209,14 @@ reported w answers history closed new usage outcomes.Memory is counted keys left
 reported w answers history closed new usage _ is counted keys left = absurd is
 
 pub reported_without : (w : Workload) (answers : List (Option Answer)) (history : List Placed) (closed new : DiskSeen) (cause : NoSurvey) (outcome : Outcome)
-    → IsReportWithoutOr (report w answers history None) cause outcome → IsUnsurveyedFor closed new cause → Concludes w answers history closed new outcome
-reported_without w answers history closed new cause (outcomes.Unsurveyed report given) is refused = record {
+    → IsVisiting closed.state new.state → IsReportWithoutOr (report w answers history None) cause outcome → IsUnsurveyedFor closed new cause → Concludes w answers history closed new outcome
+reported_without w answers history closed new cause (outcomes.Unsurveyed report given) visiting is refused = record {
   text = is.0;
   refused = let P : NoSurvey → Type 0 = λ no. IsUnsurveyedFor closed new no in subst P (sym is.1) refused;
+  visiting = visiting;
 }
-reported_without w answers history closed new cause outcomes.Memory is refused = tt
-reported_without w answers history closed new cause _ is refused = absurd is
+reported_without w answers history closed new cause outcomes.Memory visiting is refused = tt
+reported_without w answers history closed new cause _ visiting is refused = absurd is
 
 -- where the survey gave another answer, the counter is not at its end
 pub has_keys : (result : Result Usage SurveyNo) (refusal : SurveyNo) (counter : ℕ) → result ≡ Err refusal → refusal ≢ surveys.NoKeys → ((result ≡ Err surveys.NoKeys) ↔ (counter ≡ last_counter)) → counter ≢ last_counter

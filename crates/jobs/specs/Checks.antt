@@ -8,7 +8,7 @@ use Rattle.image_view.specs.Valid.{IsVolume}
 use Rattle.report.specs.Reports.{usage_line}
 use Rattle.shared_disk.specs.State.{State}
 use Rattle.vol_base.specs.Faults.{Rose}
-use Rattle.volume_check.specs.Visits.{after_visit}
+use Rattle.volume_check.specs.Visits.{IsVisiting, after_visit}
 use Rattle.volume_faults.specs.declared.fault.Fault.{Fault}
 use Rattle.volume_faults.specs.Faults.{AreFaults}
 use Rattle.jobs.specs.declared.outcome.Outcome.{Outcome}
@@ -146,6 +146,10 @@ pub record PrintsRefusal (old new : State) (before after : Option (List ℕ)) : 
   pub refusal : VolumeNo
   pub refused : CheckRefuses old new refusal
   pub text : Appends before after (refusal_text refusal)
+
+-- one visit, or a whole one and then another; the last one may have been broken off
+abbrev pub AreVisits : State → State → Type 0
+AreVisits before after = IsVisiting before after ⊎ IsVisiting (after_visit before) after
 
 -- the statuses with which a check ends
 abbrev pub IsCheckStatus : Status → Type 0

@@ -7,7 +7,7 @@ use Rattle.jobs.specs.declared.status.Status.{Status}
 use Rattle.jobs.specs.declared.status.Status.TheVariants as statuses
 use Rattle.jobs.specs.declared.words.Job.{Job}
 use Rattle.jobs.specs.declared.words.Job.TheVariants.{Sim, Check}
-use Rattle.jobs.specs.Checks.{CheckDecides, IsCheckStatus, IsReady, PrintsRefusal, PrintsValid}
+use Rattle.jobs.specs.Checks.{AreVisits, CheckDecides, IsCheckStatus, IsReady, PrintsRefusal, PrintsValid}
 use Rattle.jobs.specs.Endings.{Ends, HasRefused, IsSmooth, Told}
 use Rattle.jobs.specs.Outcomes.{outcome_text}
 use Rattle.jobs.specs.Seen.{Seen}
@@ -27,6 +27,8 @@ pub record CheckEnds (before after : Seen) (status : Status) : Type 0 where
   pub source : after.source ≡ before.source
   pub told : after.disk.state.told ≡ before.disk.state.told
   pub blocks : after.disk.state.blocks ≡ before.disk.state.blocks
+  -- its keys are those that the visits of the check and of the survey leave
+  pub visits : AreVisits before.disk.state after.disk.state
   -- without a fault a valid volume is found valid, where memory serves
   pub complete : IsReady before.disk.state → IsSmooth before.disk after.disk before.sink after.sink
       → (status ≡ statuses.Ok) ⊎ (status ≡ statuses.Memory)

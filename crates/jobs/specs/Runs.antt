@@ -17,7 +17,7 @@ use Rattle.vol_base.specs.declared.answer.Answer.{Answer}
 use Rattle.vol_base.specs.Faults.{Rose}
 use Rattle.vol_layout.specs.declared.geometry.Geometry.{Geometry}
 use Rattle.vol_layout.specs.Regions.{total}
-use Rattle.volume_check.specs.Visits.{after_visit}
+use Rattle.volume_check.specs.Visits.{IsVisiting, after_visit}
 use Rattle.volume_opening.specs.declared.open_no.OpenNo.{OpenNo}
 use Rattle.volume_opening.specs.declared.open_no.OpenNo.TheVariants as openings
 use Rattle.volume_opening.specs.Misfits.{misfit}
@@ -110,10 +110,12 @@ IsUnsurveyedFor closed new causes.DiskFault = (closed.state.counter ≢ last_cou
 IsUnsurveyedFor closed new (causes.NoKeys counter) = IsAtLast closed.state counter
 IsUnsurveyedFor closed new (causes.Misread place) = (closed.state.counter ≢ last_counter) × FindsBad closed.state new.state
 
--- the survey was refused for this cause, and these bytes are the report without a usage
+-- the survey was refused for this cause, its visit may have been broken off, and these bytes are the report without a
+-- usage
 pub record IsReportedWithout (w : Workload) (answers : List (Option Answer)) (history : List Placed) (closed new : DiskSeen) (bytes : List ℕ) (cause : NoSurvey) : Type 0 where
   pub text : bytes ≡ report w answers history None
   pub refused : IsUnsurveyedFor closed new cause
+  pub visiting : IsVisiting closed.state new.state
 
 -- what is decided behind the last line
 abbrev pub Concludes : Workload → List (Option Answer) → List Placed → DiskSeen → DiskSeen → Outcome → Type 0

@@ -2,7 +2,8 @@
 ghost use Rattle.std.specs.Prelude.{◌≡◌, ◌⊎◌, IfOk, IfSome};
 ghost use Rattle.image_view.specs.Valid.{IsVolume};
 ghost use Rattle.vol_base.specs.Faults.{Rose};
-ghost use Rattle.jobs.specs.Checks.{CheckDecides, IsCheckStatus, IsReady, PrintsRefusal, PrintsValid, SurveyDecides, valid_text};
+ghost use Rattle.volume_check.specs.Visits.{IsVisiting};
+ghost use Rattle.jobs.specs.Checks.{AreVisits, CheckDecides, IsCheckStatus, IsReady, PrintsRefusal, PrintsValid, SurveyDecides, valid_text};
 ghost use Rattle.jobs.specs.Endings.{Ends, HasRefused, IsSmooth, disk_seen, sink_seen};
 
 use crate::outcome::{LAST_COUNTER, Outcome, VolumeNo};
@@ -40,6 +41,9 @@ pub fn check<K: Sink, D: Device>(alloc: Global, sink: &mut K, disk: D) -> (Statu
     ensures told { (D.state result.1).told ≡ (D.state disk).told }
     ensures blocks { (D.state result.1).blocks ≡ (D.state disk).blocks }
 
+    // Its keys are those that the visits of the check and of the survey leave.
+    ensures visits { AreVisits (D.state disk) (D.state result.1) }
+
     // Without a fault a valid volume is found valid, where memory serves.
     ensures complete { IsReady (D.state disk)
         → IsSmooth
@@ -58,6 +62,7 @@ pub fn check<K: Sink, D: Device>(alloc: Global, sink: &mut K, disk: D) -> (Statu
 fn decide<D: Device>(alloc: Global, disk: &mut D) -> Outcome
     ensures decided { CheckDecides (disk_seen (D.state disk.old) (D.faults disk.old)) (disk_seen (D.state disk.new) (D.faults disk.new)) result }
     ensures told { (D.state disk.new).told ≡ (D.state disk.old).told }
+    ensures visits { AreVisits (D.state disk.old) (D.state disk.new) }
     ensures blocks { (D.state disk.new).blocks ≡ (D.state disk.old).blocks }
 {
     let faults = match volume_check::check(alloc, disk) {
@@ -79,6 +84,7 @@ fn decide_valid<D: Device>(alloc: Global, disk: &mut D) -> Outcome
     requires { IfSome (D.state disk.old).told (λ told. IsVolume (D.state disk.old).counter told.image) }
     ensures decided { SurveyDecides (disk_seen (D.state disk.old) (D.faults disk.old)) (disk_seen (D.state disk.new) (D.faults disk.new)) result }
     ensures told { (D.state disk.new).told ≡ (D.state disk.old).told }
+    ensures visits { IsVisiting (D.state disk.old) (D.state disk.new) }
     ensures blocks { (D.state disk.new).blocks ≡ (D.state disk.old).blocks }
 {
     let usage = match survey(alloc, disk) {

@@ -7,7 +7,7 @@ ghost use Rattle.vol_layout.specs.Superblock.{SpellsGeometry};
 ghost use Rattle.image_view.specs.Images.{IsBlank, first_block};
 ghost use Rattle.image_view.specs.Valid.{IsVolume};
 ghost use Rattle.volume_faults.specs.Faults.{AreFaults, AreTableFaults};
-ghost use Rattle.volume_check.specs.Visits.{after_visit};
+ghost use Rattle.volume_check.specs.Visits.{IsVisiting, after_visit};
 
 use crate::metadata::{Metadata, ReadNo};
 use crate::stages::table_faults;
@@ -46,6 +46,7 @@ pub fn check<D: Device>(alloc: Global, disk: &mut D) -> Result<Vec<Fault>, Check
     ensures not_blank { OnOk result (IfSome (D.state disk.new).told (λ told. IsBlank told.image → ⊥)) }
 
     ensures told { (D.state disk.new).told ≡ (D.state disk.old).told }
+    ensures visiting { IsVisiting (D.state disk.old) (D.state disk.new) }
     ensures blocks { (D.state disk.new).blocks ≡ (D.state disk.old).blocks }
     ensures done { OnOk result (D.state disk.new ≡ after_visit (D.state disk.old)) }
     ensures left { result ≡ Err CheckNo.Blank → D.state disk.new ≡ after_visit (D.state disk.old) }

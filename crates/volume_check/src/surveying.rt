@@ -4,7 +4,7 @@ ghost use Rattle.vol_base.specs.Faults.{Rose};
 ghost use Rattle.image_view.specs.Usages.{usage_in, usage_of};
 ghost use Rattle.volume_check.specs.Metadatas.{Passes};
 ghost use Rattle.volume_check.specs.Readable.{IsReadableVolume};
-ghost use Rattle.volume_check.specs.Visits.{after_visit};
+ghost use Rattle.volume_check.specs.Visits.{IsVisiting, after_visit};
 
 use crate::metadata::{Metadata, ReadNo};
 use crate::stages::misspelled;
@@ -26,6 +26,7 @@ pub fn survey<D: Device>(alloc: Global, disk: &mut D) -> Result<Usage, SurveyNo>
     ensures bad { (place : ℕ) → result ≡ Err (SurveyNo.Bad place) → IsNone (D.state disk.old).told }
 
     ensures told { (D.state disk.new).told ≡ (D.state disk.old).told }
+    ensures visiting { IsVisiting (D.state disk.old) (D.state disk.new) }
     ensures blocks { (D.state disk.new).blocks ≡ (D.state disk.old).blocks }
     ensures done { OnOk result (D.state disk.new ≡ after_visit (D.state disk.old)) }
     ensures left { (place : ℕ) → result ≡ Err (SurveyNo.Bad place) → D.state disk.new ≡ after_visit (D.state disk.old) }

@@ -24,6 +24,7 @@ returns-in-Some-Check g c =
       source = refl;
       told = c.check.ensures.told;
       blocks = cc;
+      visits = c.check.ensures.visits;
       complete = c.check.ensures.complete;
     })
 

@@ -17,18 +17,18 @@ returns-in-Ok-clause-concluded g c =
 pub returns-in-Err-Failed-clause-concluded : goal.returns-in-Err-Failed-clause-concluded
 returns-in-Err-Failed-clause-concluded g c =
     let is = c.in-Err-Failed.is ∙ ap (λ no. Err no) c.in-Err-Failed.field-0-is in
-    reported_without _ _ _ _ _ _ _ c.report_without.ensures (has_keys _ _ _ is (λ e. cc) c.survey.ensures.no_keys, c.survey.ensures.failed is)
+    reported_without _ _ _ _ _ _ _ c.survey.ensures.visiting c.report_without.ensures (has_keys _ _ _ is (λ e. cc) c.survey.ensures.no_keys, c.survey.ensures.failed is)
 
 pub returns-in-Err-NoKeys-clause-concluded : goal.returns-in-Err-NoKeys-clause-concluded
 returns-in-Err-NoKeys-clause-concluded g c =
     let is = c.in-Err-NoKeys.is ∙ ap (λ no. Err no) c.in-Err-NoKeys.field-0-is in
-    reported_without _ _ _ _ _ _ _ c.report_without-in-Err-NoKeys.ensures (record { last = refl; met = c.survey.ensures.no_keys.0 is })
+    reported_without _ _ _ _ _ _ _ c.survey.ensures.visiting c.report_without-in-Err-NoKeys.ensures (record { last = refl; met = c.survey.ensures.no_keys.0 is })
 
 pub returns-in-Err-Bad-clause-concluded : goal.returns-in-Err-Bad-clause-concluded
 returns-in-Err-Bad-clause-concluded g c =
     let is = c.in-Err-Bad.is ∙ ap (λ no. Err no) c.in-Err-Bad.field-0-is in
     let place = c.in-Err-Bad.place in
-    reported_without _ _ _ _ _ _ _ c.report_without-in-Err-Bad.ensures (
+    reported_without _ _ _ _ _ _ _ c.survey.ensures.visiting c.report_without-in-Err-Bad.ensures (
       has_keys _ _ _ is (λ e. cc) c.survey.ensures.no_keys,
       record { untold = c.survey.ensures.bad place is; left = c.survey.ensures.left place is },
     )

@@ -1,4 +1,4 @@
-use Rattle.std.proofs.Common.{◌+◌, ◌∙◌, ap}
+use Rattle.std.proofs.Common.{inl, inr, ◌+◌, ◌∙◌, ap}
 use Rattle.std.proofs.lemmas.Option.{IfSome_then}
 use Rattle.shared_disk.specs.Calls.{after_fence}
 use Rattle.shared_disk.specs.State.{State}
@@ -30,3 +30,11 @@ returns-in-Ok-end-clause-valid g c =
     ∙ visited s c.in-Ok.key.0 c.in-Ok.ensures.key (g.met.D.Device.keys_reached c.args.disk.now) in
     let are = rw c.in-Ok.ensures.done at c.check_under-found.ensures.faults in
     rw done (if_ok_then c.check_under-found.result are (λ faults of. IfSome_then s.told of (λ t is. faultless_exactly_where_valid (s.counter + 1) t.image faults.items is)))
+
+pub returns-in-Ok-end-clause-visiting : goal.returns-in-Ok-end-clause-visiting
+returns-in-Ok-end-clause-visiting g c =
+    inr (inr (c.in-Ok-end.ensures.done ∙ ap (λ (t : State). after_fence c.in-Ok.key.0 t) (c.check_under-found.ensures.same ∙ c.in-Ok.ensures.done)
+    ∙ visited (g.D.Device.state c.args.disk.now) c.in-Ok.key.0 c.in-Ok.ensures.key (g.met.D.Device.keys_reached c.args.disk.now)))
+
+pub returns-in-Err-end-clause-visiting : goal.returns-in-Err-end-clause-visiting
+returns-in-Err-end-clause-visiting g c = inr (inl (c.in-Err-end.ensures.same ∙ c.check_under-found.ensures.same ∙ c.in-Ok.ensures.done))

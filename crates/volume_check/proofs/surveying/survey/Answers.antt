@@ -1,4 +1,4 @@
-use Rattle.std.proofs.Common.{◌∙◌, ap}
+use Rattle.std.proofs.Common.{inl, inr, ◌∙◌, ap}
 use Rattle.shared_disk.specs.Calls.{after_fence}
 use Rattle.shared_disk.specs.State.{State}
 use Rattle.volume_check.proofs.ToldLaws.{on_ok_of}
@@ -19,3 +19,11 @@ pub returns-in-Ok-end-clause-left : goal.returns-in-Ok-end-clause-left
 returns-in-Ok-end-clause-left g c place bad =
     c.in-Ok-end.ensures.done ∙ ap (λ (t : State). after_fence c.in-Ok.key.0 t) (c.survey_under-found.ensures.same ∙ c.in-Ok.ensures.done)
     ∙ visited (g.D.Device.state c.args.disk.now) c.in-Ok.key.0 c.in-Ok.ensures.key (g.met.D.Device.keys_reached c.args.disk.now)
+
+pub returns-in-Ok-end-clause-visiting : goal.returns-in-Ok-end-clause-visiting
+returns-in-Ok-end-clause-visiting g c =
+    inr (inr (c.in-Ok-end.ensures.done ∙ ap (λ (t : State). after_fence c.in-Ok.key.0 t) (c.survey_under-found.ensures.same ∙ c.in-Ok.ensures.done)
+    ∙ visited (g.D.Device.state c.args.disk.now) c.in-Ok.key.0 c.in-Ok.ensures.key (g.met.D.Device.keys_reached c.args.disk.now)))
+
+pub returns-in-Err-end-clause-visiting : goal.returns-in-Err-end-clause-visiting
+returns-in-Err-end-clause-visiting g c = inr (inl (c.in-Err-end.ensures.same ∙ c.survey_under-found.ensures.same ∙ c.in-Ok.ensures.done))
