@@ -54,3 +54,5 @@ pub mod KeylessLaws
 pub mod CallSteps
 pub mod RunSteps
 pub mod StaySteps
+pub mod Uncut
+pub mod UncutLaws

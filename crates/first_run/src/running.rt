@@ -4,6 +4,8 @@ ghost use Rattle.vol_layout.specs.Ranges.{IsGeometry};
 ghost use Rattle.vol_layout.specs.Regions.{total};
 ghost use Rattle.histories.specs.Fit.{Fits};
 ghost use Rattle.histories.specs.Phases.{ArePhased};
+ghost use Rattle.image_view.specs.Valid.{IsValid};
+ghost use Rattle.first_run.specs.Uncut.{AreUncut};
 ghost use Rattle.first_run.specs.Runs.{entry_at, IsBuiltLine, IsUnheld, Leads, LeadsFiles, Steps};
 ghost use Rattle.first_run.specs.Seats.{HasVolume, OnImages, owed_of, run_state};
 
@@ -57,6 +59,8 @@ pub fn run<D: Device>(
     // leaves; of that volume the counts alone that host 0 owes are not written.
     ensures files { IfOk result (λ ran. OnImages (LeadsFiles geometry.now lines.now ran.history.items) (D.state disk.old).told (D.state disk.new).told) }
     ensures volume { IfOk result (λ ran. HasVolume geometry.now (D.state disk.new) (owed_of ran.seat)) }
+    // Where no command was cut, it owes none: the volume is valid.
+    ensures valid { IfOk result (λ ran. AreUncut ran.answers.items → IfSome (D.state disk.new).told (λ told. IsValid geometry.now (D.state disk.new).counter told.image)) }
     // Where memory is refused, the files are those that a history of the lines leaves, legal and fitting.
     ensures memory { ArePhased lines.now → OnErr result (OnImages (Leads geometry.now lines.now) (D.state disk.old).told (D.state disk.new).told) }
     ensures blocks { (D.state disk.new).blocks ≡ (D.state disk.old).blocks }

@@ -36,6 +36,7 @@ use Rattle.first_run.specs.declared.seat.Owed.TheVariants as owing
 use Rattle.first_run.specs.declared.seat.Seat.{Seat}
 use Rattle.first_run.specs.declared.seat.Seat.TheVariants as seats
 use Rattle.first_run.specs.Runs.{IsUnheld, Leads, LeadsFiles, Steps}
+use Rattle.first_run.specs.Uncut.{AreUncut}
 use Rattle.first_run.specs.Seats.{HasVolume, OnImages, owed_of, run_state}
 use Rattle.jobs.specs.declared.outcome.NoSurvey.{NoSurvey}
 use Rattle.jobs.specs.declared.outcome.Outcome.{Outcome}
@@ -163,10 +164,11 @@ pub finished_run : (w : Workload) (old opened closed : DiskSeen) (last : Option 
     → Opens w.geometry old opened → IfSome opened.state.told (λ told. AreIdle w.geometry told.image w.geometry.hosts)
     → lines ≡ w.lines → Steps w.geometry 0 lines answers history (run_state opened.state opened.faults (seats.Out owing.Nothing)) (run_state closed.state closed.faults seat)
     → length answers ≡ length lines → All (λ answer. IsSome answer) answers → Fits lines answers history
-    → OnImages (LeadsFiles w.geometry lines history) opened.state.told closed.state.told → HasVolume w.geometry closed.state (owed_of seat) → opened.faults ≤ closed.faults
+    → OnImages (LeadsFiles w.geometry lines history) opened.state.told closed.state.told → HasVolume w.geometry closed.state (owed_of seat)
+    → (AreUncut answers → IfSome closed.state.told (λ told. IsValid w.geometry closed.state.counter told.image)) → opened.faults ≤ closed.faults
     → last ≡ closed.state.told
     → IsRunOf w old last (record { opened = opened; closed = closed; seat = seat; answers = answers; history = history })
-finished_run w old opened closed last seat lines answers history opens free is steps positions answered fits files volume later ends =
+finished_run w old opened closed last seat lines answers history opens free is steps positions answered fits files volume valid later ends =
     let AreSteps : List Line → Type 0 = λ ls. Steps w.geometry 0 ls answers history (run_state opened.state opened.faults (seats.Out owing.Nothing)) (run_state closed.state closed.faults seat) in
     let Fit : List Line → Type 0 = λ ls. Fits ls answers history in
     let Lead : List Line → Type 0 = λ ls. OnImages (LeadsFiles w.geometry ls history) opened.state.told closed.state.told in
@@ -181,6 +183,7 @@ finished_run w old opened closed last seat lines answers history opens free is s
       files = subst Reach (sym ends) (leads_since w.geometry w.lines history old.state.told opened.state.told closed.state.told opens.images.each (subst Lead is files));
       ends = ends;
       volume = volume;
+      valid = valid;
       later = later;
     }
 

@@ -3,10 +3,12 @@ use Rattle.std.specs.Prelude.{◌≡◌, ◌≢◌, ◌⊎◌, ◌↔◌, ◌+�
 use Rattle.image_view.specs.declared.usage.Usage.{Usage}
 use Rattle.image_view.specs.Images.{Image, IsBlank}
 use Rattle.image_view.specs.Usages.{usage_of}
+use Rattle.image_view.specs.Valid.{IsValid}
 use Rattle.first_run.specs.declared.seat.Owed.TheVariants as owing
 use Rattle.first_run.specs.declared.seat.Seat.{Seat}
 use Rattle.first_run.specs.declared.seat.Seat.TheVariants as seats
 use Rattle.first_run.specs.Runs.{IsUnheld, Leads, LeadsFiles, Steps}
+use Rattle.first_run.specs.Uncut.{AreUncut}
 use Rattle.first_run.specs.Seats.{HasVolume, OnImages, owed_of, run_state}
 use Rattle.histories.specs.Fit.{Fits}
 use Rattle.plain_files.specs.declared.history.Placed.{Placed}
@@ -93,6 +95,8 @@ pub record IsRunOf (w : Workload) (old : DiskSeen) (last : Option Told) (run : R
   pub ends : last ≡ run.closed.state.told
   -- of the closed state's volume the counts alone that host 0 owes are not written
   pub volume : HasVolume w.geometry run.closed.state (owed_of run.seat)
+  -- where no command was cut, it owes none: the volume is valid
+  pub valid : AreUncut run.answers → IfSome run.closed.state.told (λ told. IsValid w.geometry run.closed.state.counter told.image)
   pub later : run.opened.faults ≤ run.closed.faults
 
 -- the survey of the volume that a run left counted what of it is used, under a key that was registered and fenced, and

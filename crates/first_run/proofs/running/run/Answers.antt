@@ -1,7 +1,8 @@
-use Rattle.std.proofs.Common.{◌∙◌, sym, subst, arith}
+use Rattle.std.proofs.Common.{◌∙◌, refl, sym, subst, arith}
 use Rattle.first_run.specs.RunLaws.{run-begun}
 use Rattle.first_run.specs.RunSteps.{between-begun, leads-next, run-added, stopped-next}
 use Rattle.first_run.specs.Seats.{IsBetween, run_state}
+use Rattle.first_run.specs.UncutLaws.{uncut-valid}
 use Rattle.first_run.specs.declared.seat.Owed.TheVariants.{Nothing}
 use Rattle.first_run.specs.declared.seat.Seat.{Seat}
 use Rattle.first_run.specs.declared.seat.Seat.TheVariants.{Out}
@@ -55,3 +56,6 @@ loop-position-preserved g c =
 
 pub returns-clause-fits : goal.returns-clause-fits
 returns-clause-fits g c = c.loop-position.invariant.run.fits
+
+pub returns-clause-valid : goal.returns-clause-valid
+returns-clause-valid g c = uncut-valid _ _ _ _ _ _ _ c.loop-position.invariant.run.steps refl c.loop-position.invariant.between.volume
