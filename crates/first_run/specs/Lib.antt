@@ -56,3 +56,4 @@ pub mod RunSteps
 pub mod StaySteps
 pub mod Uncut
 pub mod UncutLaws
+pub mod KeyLaws

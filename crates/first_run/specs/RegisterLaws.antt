@@ -1,5 +1,5 @@
 -- A key that was registered, and the volume under it.
-use Rattle.std.proofs.Common.{◌≡◌, ◌≤◌, ◌+◌, ◌++◌, ◌∷◌, [], ℕ, List, Option, Some, None, sym, subst, arith}
+use Rattle.std.proofs.Common.{◌≡◌, ◌≤◌, ◌+◌, ◌++◌, ◌∷◌, [], ℕ, List, Option, Some, None, sym, ap, subst, arith}
 use Rattle.std.specs.Prelude.{Contains, IfSome}
 use Rattle.std.proofs.lemmas.List.Elements.{Contains-push}
 use Rattle.vol_base.specs.declared.block.Key.{Key}
@@ -9,9 +9,11 @@ use Rattle.vol_layout.specs.Ranges.{IsGeometry}
 use Rattle.vol_layout.specs.Regions.{total}
 use Rattle.shared_disk.specs.Calls.{after_register, next_key}
 use Rattle.shared_disk.specs.State.{State, Told}
+use Rattle.first_run.specs.KeyLaws.{keys-more, keys-same, keys-trans}
 use Rattle.first_run.specs.KeptLaws.{kept-later}
 use Rattle.first_run.specs.Owing.{IsKept}
-use Rattle.first_run.specs.Seats.{HasVolume, IsServed}
+use Rattle.first_run.specs.SeatLaws.{keys-kept}
+use Rattle.first_run.specs.Seats.{ChangesContent, HasVolume, IsServed, KeepsKeys}
 use Rattle.first_run.specs.declared.seat.Owed.{Owed}
 
 -- the device serves under the new key
@@ -34,3 +36,8 @@ pub volume-registered : (g : Geometry) (owed : Owed) (before middle : State) →
 volume-registered g owed before middle kept is =
     let later : HasVolume g (after_register 0 before) owed = kept_told g before.counter _ before.told kept in
     subst (λ (s : State). HasVolume g s owed) (sym is) later
+
+-- a join takes no key off
+pub keys-joined : (old middle new : State) → middle ≡ after_register 0 old → ChangesContent middle new → KeepsKeys old new
+keys-joined old middle new registered only =
+    keys-trans old middle new (keys-more old middle (next_key 0 old) (ap (λ (s : State). s.keys) registered)) (keys-same middle new (keys-kept middle new only))

@@ -1,7 +1,7 @@
 // How host 0 joins.
 ghost use Rattle.std.specs.Prelude.{◌≡◌, ◌≤◌, IfOk, None, OnErr};
 ghost use Rattle.first_run.specs.Keyless.{IsKeyless};
-ghost use Rattle.first_run.specs.Seats.{IsBetween, OnImages, run_state};
+ghost use Rattle.first_run.specs.Seats.{KeepsKeys, IsBetween, OnImages, run_state};
 ghost use Rattle.first_run.specs.Steps.{EndsIn, Step};
 
 use crate::numbers::pay;
@@ -17,6 +17,7 @@ pub fn join<D: Device>(disk: &mut D, geometry: &Geometry, owed: Owed) -> Result<
     ensures step { IfOk result (λ done. Step geometry.now Command.Join done.answer done.placed (run_state (D.state disk.old) (D.faults disk.old) (Seat.Out owed)) (run_state (D.state disk.new) (D.faults disk.new) done.seat)) }
     ensures between { IfOk result (λ done. IsBetween geometry.now (run_state (D.state disk.new) (D.faults disk.new) done.seat)) }
     ensures memory { OnErr result (OnImages (EndsIn geometry.now Command.Join) (D.state disk.old).told (D.state disk.new).told) }
+    ensures keys { KeepsKeys (D.state disk.old) (D.state disk.new) }
     ensures blocks { (D.state disk.new).blocks ≡ (D.state disk.old).blocks }
     ensures later { D.faults disk.old ≤ D.faults disk.new }
 {

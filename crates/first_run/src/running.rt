@@ -7,7 +7,7 @@ ghost use Rattle.histories.specs.Phases.{ArePhased};
 ghost use Rattle.image_view.specs.Valid.{IsValid};
 ghost use Rattle.first_run.specs.Uncut.{AreUncut};
 ghost use Rattle.first_run.specs.Runs.{entry_at, IsBuiltLine, IsUnheld, Leads, LeadsFiles, Steps};
-ghost use Rattle.first_run.specs.Seats.{HasVolume, OnImages, owed_of, run_state};
+ghost use Rattle.first_run.specs.Seats.{KeepsKeys, HasVolume, OnImages, owed_of, run_state};
 
 use crate::seat::{Owed, Seat};
 use crate::step::{Done, step};
@@ -63,6 +63,7 @@ pub fn run<D: Device>(
     ensures valid { IfOk result (λ ran. AreUncut ran.answers.items → IfSome (D.state disk.new).told (λ told. IsValid geometry.now (D.state disk.new).counter told.image)) }
     // Where memory is refused, the files are those that a history of the lines leaves, legal and fitting.
     ensures memory { ArePhased lines.now → OnErr result (OnImages (Leads geometry.now lines.now) (D.state disk.old).told (D.state disk.new).told) }
+    ensures keys { KeepsKeys (D.state disk.old) (D.state disk.new) }
     ensures blocks { (D.state disk.new).blocks ≡ (D.state disk.old).blocks }
     ensures later { D.faults disk.old ≤ D.faults disk.new }
 {

@@ -1,7 +1,7 @@
 // One line of a workload, done whole.
 ghost use Rattle.std.specs.Prelude.{◌≡◌, ◌≢◌, ◌≤◌, IfOk, None, OnErr};
 ghost use Rattle.first_run.specs.Runs.{IsBuilt};
-ghost use Rattle.first_run.specs.Seats.{IsBetween, OnImages, run_state};
+ghost use Rattle.first_run.specs.Seats.{KeepsKeys, IsBetween, OnImages, run_state};
 ghost use Rattle.first_run.specs.Steps.{EndsIn, IfCut, IsCutOf, Step, reply_in};
 
 use crate::commands::make_call;
@@ -34,6 +34,7 @@ pub fn step<D: Device>(
     ensures step { IfOk result (λ done. Step geometry.now command.now done.answer done.placed (run_state (D.state disk.old) (D.faults disk.old) seat) (run_state (D.state disk.new) (D.faults disk.new) done.seat)) }
     ensures between { IfOk result (λ done. IsBetween geometry.now (run_state (D.state disk.new) (D.faults disk.new) done.seat)) }
     ensures memory { OnErr result (OnImages (EndsIn geometry.now command.now) (D.state disk.old).told (D.state disk.new).told) }
+    ensures keys { KeepsKeys (D.state disk.old) (D.state disk.new) }
     ensures blocks { (D.state disk.new).blocks ≡ (D.state disk.old).blocks }
     ensures later { D.faults disk.old ≤ D.faults disk.new }
 {
@@ -62,6 +63,7 @@ fn do_file_command<D: Device>(
     ensures step { IfOk result (λ done. Step geometry.now command.now done.answer done.placed (run_state (D.state disk.old) (D.faults disk.old) (Seat.Joined key)) (run_state (D.state disk.new) (D.faults disk.new) done.seat)) }
     ensures between { IfOk result (λ done. IsBetween geometry.now (run_state (D.state disk.new) (D.faults disk.new) done.seat)) }
     ensures memory { OnErr result (OnImages (EndsIn geometry.now command.now) (D.state disk.old).told (D.state disk.new).told) }
+    ensures keys { KeepsKeys (D.state disk.old) (D.state disk.new) }
     ensures blocks { (D.state disk.new).blocks ≡ (D.state disk.old).blocks }
     ensures later { D.faults disk.old ≤ D.faults disk.new }
 {

@@ -8,6 +8,7 @@ use Rattle.vol_base.specs.BytesLaws.{number_at-behind, number_at-zeros}
 use Rattle.vol_layout.specs.declared.geometry.Geometry.{Geometry}
 use Rattle.vol_layout.specs.Regions.{total}
 use Rattle.shared_disk.specs.Prefixes.{EachImage, Prefixes}
+use Rattle.shared_disk.specs.Calls.{next_key}
 use Rattle.shared_disk.specs.State.{State, Told}
 use Rattle.shared_disk.proofs.PrefixLaws.{EachImage-ends}
 use Rattle.plain_files.specs.declared.history.Placed.{Placed}
@@ -37,7 +38,8 @@ use Rattle.first_run.specs.declared.seat.Seat.{Seat}
 use Rattle.first_run.specs.declared.seat.Seat.TheVariants as seats
 use Rattle.first_run.specs.Runs.{IsUnheld, Leads, LeadsFiles, Steps}
 use Rattle.first_run.specs.Uncut.{AreUncut}
-use Rattle.first_run.specs.Seats.{HasVolume, OnImages, owed_of, run_state}
+use Rattle.first_run.specs.KeyLaws.{keys-more, keys-same}
+use Rattle.first_run.specs.Seats.{KeepsKeys, HasVolume, OnImages, owed_of, run_state}
 use Rattle.jobs.specs.declared.outcome.NoSurvey.{NoSurvey}
 use Rattle.jobs.specs.declared.outcome.Outcome.{Outcome}
 use Rattle.jobs.specs.declared.outcome.Outcome.TheVariants as outcomes
@@ -165,10 +167,10 @@ pub finished_run : (w : Workload) (old opened closed : DiskSeen) (last : Option 
     → lines ≡ w.lines → Steps w.geometry 0 lines answers history (run_state opened.state opened.faults (seats.Out owing.Nothing)) (run_state closed.state closed.faults seat)
     → length answers ≡ length lines → All (λ answer. IsSome answer) answers → Fits lines answers history
     → OnImages (LeadsFiles w.geometry lines history) opened.state.told closed.state.told → HasVolume w.geometry closed.state (owed_of seat)
-    → (AreUncut answers → IfSome closed.state.told (λ told. IsValid w.geometry closed.state.counter told.image)) → opened.faults ≤ closed.faults
+    → (AreUncut answers → IfSome closed.state.told (λ told. IsValid w.geometry closed.state.counter told.image)) → opened.faults ≤ closed.faults → KeepsKeys opened.state closed.state
     → last ≡ closed.state.told
     → IsRunOf w old last (record { opened = opened; closed = closed; seat = seat; answers = answers; history = history })
-finished_run w old opened closed last seat lines answers history opens free is steps positions answered fits files volume valid later ends =
+finished_run w old opened closed last seat lines answers history opens free is steps positions answered fits files volume valid later keys ends =
     let AreSteps : List Line → Type 0 = λ ls. Steps w.geometry 0 ls answers history (run_state opened.state opened.faults (seats.Out owing.Nothing)) (run_state closed.state closed.faults seat) in
     let Fit : List Line → Type 0 = λ ls. Fits ls answers history in
     let Lead : List Line → Type 0 = λ ls. OnImages (LeadsFiles w.geometry ls history) opened.state.told closed.state.told in
@@ -185,7 +187,18 @@ finished_run w old opened closed last seat lines answers history opens free is s
       volume = volume;
       valid = valid;
       later = later;
+      keys = keys;
     }
+
+-- a visit takes no key off that stood before it
+visit_keeps : (before after : State) → IsVisiting before after → KeepsKeys before after
+visit_keeps before after (inl same) = keys-same before after (ap (λ (s : State). s.keys) same)
+visit_keeps before after (inr (inl registered)) = keys-more before after (next_key 0 before) (ap (λ (s : State). s.keys) registered)
+visit_keeps before after (inr (inr visited)) = keys-same before after (ap (λ (s : State). s.keys) visited)
+
+-- nor does an opening
+opening_keeps : (g : Geometry) (old opened : DiskSeen) → Opens g old opened → KeepsKeys old.state opened.state
+opening_keeps g old opened opens = keys-same old.state opened.state (ap (λ (s : State). s.keys) opens.visited)
 
 -- what is decided behind the last line
 pub concluded : (w : Workload) (old new : DiskSeen) (run : Run) (outcome : Outcome) → IsRunOf w old new.state.told run → Concludes w run.answers run.history run.closed new outcome
@@ -193,23 +206,31 @@ pub concluded : (w : Workload) (old new : DiskSeen) (run : Run) (outcome : Outco
 concluded w old new run (outcomes.Done report) ran h = record { run = run; ran = ran; reported = h }
 concluded w old new run (outcomes.Unsurveyed report cause) ran h = record { run = run; ran = ran; reported = h }
 concluded w old new run outcomes.Memory ran h =
-    inr (ran.opens.keys, some_leads w.geometry w.lines run.answers run.history old.state.told new.state.told ran.fits ran.files)
+    inr (
+      ran.opens.keys,
+      some_leads w.geometry w.lines run.answers run.history old.state.told new.state.told ran.fits ran.files,
+      λ key has. visit_keeps run.closed.state new.state h key (ran.keys key (opening_keeps w.geometry old run.opened ran.opens key has)),
+    )
 concluded w old new run _ ran h = absurd h
 
 -- memory was refused while the lines were run
 pub memory_refused : (w : Workload) (old opened new : DiskSeen) (lines : List Line) → Opens w.geometry old opened → lines ≡ w.lines
-    → OnImages (Leads w.geometry lines) opened.state.told new.state.told → IsOutOfMemory w old new
-memory_refused w old opened new lines opens is leads =
+    → OnImages (Leads w.geometry lines) opened.state.told new.state.told → KeepsKeys opened.state new.state → IsOutOfMemory w old new
+memory_refused w old opened new lines opens is leads kept =
     let Lead : List Line → Type 0 = λ ls. OnImages (Leads w.geometry ls) opened.state.told new.state.told in
-    inr (opens.keys, some_leads_since w.geometry w.lines old.state.told opened.state.told new.state.told opens.images.each (subst Lead is leads))
+    inr (
+      opens.keys,
+      some_leads_since w.geometry w.lines old.state.told opened.state.told new.state.told opens.images.each (subst Lead is leads),
+      λ key has. kept key (opening_keeps w.geometry old opened opens key has),
+    )
 
 -- the report with a usage, and without one
 pub reported : (w : Workload) (answers : List (Option Answer)) (history : List Placed) (closed new : DiskSeen) (usage : Usage) (outcome : Outcome)
-    → IsReportOr (report w answers history (Some usage)) outcome → IfSome new.state.told (λ told. usage ≡ usage_of told.image)
+    → IsVisiting closed.state new.state → IsReportOr (report w answers history (Some usage)) outcome → IfSome new.state.told (λ told. usage ≡ usage_of told.image)
     → closed.state.counter ≢ last_counter → new.state ≡ after_visit closed.state → Concludes w answers history closed new outcome
-reported w answers history closed new usage (outcomes.Done report) is counted keys left = record { usage = usage; text = is; counted = counted; keys = keys; left = left }
-reported w answers history closed new usage outcomes.Memory is counted keys left = tt
-reported w answers history closed new usage _ is counted keys left = absurd is
+reported w answers history closed new usage (outcomes.Done report) visiting is counted keys left = record { usage = usage; text = is; counted = counted; keys = keys; left = left }
+reported w answers history closed new usage outcomes.Memory visiting is counted keys left = visiting
+reported w answers history closed new usage _ visiting is counted keys left = absurd is
 
 pub reported_without : (w : Workload) (answers : List (Option Answer)) (history : List Placed) (closed new : DiskSeen) (cause : NoSurvey) (outcome : Outcome)
     → IsVisiting closed.state new.state → IsReportWithoutOr (report w answers history None) cause outcome → IsUnsurveyedFor closed new cause → Concludes w answers history closed new outcome
@@ -218,7 +239,7 @@ reported_without w answers history closed new cause (outcomes.Unsurveyed report 
   refused = let P : NoSurvey → Type 0 = λ no. IsUnsurveyedFor closed new no in subst P (sym is.1) refused;
   visiting = visiting;
 }
-reported_without w answers history closed new cause outcomes.Memory visiting is refused = tt
+reported_without w answers history closed new cause outcomes.Memory visiting is refused = visiting
 reported_without w answers history closed new cause _ visiting is refused = absurd is
 
 -- where the survey gave another answer, the counter is not at its end

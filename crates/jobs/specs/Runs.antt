@@ -9,7 +9,7 @@ use Rattle.first_run.specs.declared.seat.Seat.{Seat}
 use Rattle.first_run.specs.declared.seat.Seat.TheVariants as seats
 use Rattle.first_run.specs.Runs.{IsUnheld, Leads, LeadsFiles, Steps}
 use Rattle.first_run.specs.Uncut.{AreUncut}
-use Rattle.first_run.specs.Seats.{HasVolume, OnImages, owed_of, run_state}
+use Rattle.first_run.specs.Seats.{KeepsKeys, HasVolume, OnImages, owed_of, run_state}
 use Rattle.histories.specs.Fit.{Fits}
 use Rattle.plain_files.specs.declared.history.Placed.{Placed}
 use Rattle.report.specs.Reports.{report}
@@ -98,6 +98,8 @@ pub record IsRunOf (w : Workload) (old : DiskSeen) (last : Option Told) (run : R
   -- where no command was cut, it owes none: the volume is valid
   pub valid : AreUncut run.answers → IfSome run.closed.state.told (λ told. IsValid w.geometry run.closed.state.counter told.image)
   pub later : run.opened.faults ≤ run.closed.faults
+  -- no key was taken off
+  pub keys : KeepsKeys run.opened.state run.closed.state
 
 -- the survey of the volume that a run left counted what of it is used, under a key that was registered and fenced, and
 -- these bytes are the report with that usage
@@ -125,7 +127,7 @@ pub record IsReportedWithout (w : Workload) (answers : List (Option Answer)) (hi
 abbrev pub Concludes : Workload → List (Option Answer) → List Placed → DiskSeen → DiskSeen → Outcome → Type 0
 Concludes w answers history closed new (outcomes.Done report) = IsReported w answers history closed new report.items
 Concludes w answers history closed new (outcomes.Unsurveyed report cause) = IsReportedWithout w answers history closed new report.items cause
-Concludes w answers history closed new outcomes.Memory = Unit {0}
+Concludes w answers history closed new outcomes.Memory = IsVisiting closed.state new.state
 Concludes w answers history closed new outcome = ⊥
 
 -- these bytes are the report, or there was no memory for them
@@ -153,11 +155,11 @@ pub record IsUnsurveyed (w : Workload) (old new : DiskSeen) (bytes : List ℕ) (
   pub reported : IsReportedWithout w run.answers run.history run.closed new bytes cause
 
 -- memory was refused in the opening, or behind it, and then the files of the last image are those that some history
--- leaves which fits the lines and is legal from the files of the image handed in
+-- leaves which fits the lines and is legal from the files of the image handed in, and no key was taken off
 abbrev pub IsOutOfMemory : Workload → DiskSeen → DiskSeen → Type 0
 IsOutOfMemory w old new =
     IsUnopened w.geometry old new openings.NoMemory
-    ⊎ ((old.state.counter ≢ last_counter) × OnImages (Leads w.geometry w.lines) old.state.told new.state.told)
+    ⊎ ((old.state.counter ≢ last_counter) × OnImages (Leads w.geometry w.lines) old.state.told new.state.told × KeepsKeys old.state new.state)
 
 -- why a volume is refused to a run
 abbrev pub RunRefuses : Geometry → DiskSeen → DiskSeen → VolumeNo → Type 0

@@ -1,9 +1,11 @@
-use Rattle.std.proofs.Common.{◌∙◌, arith}
+use Rattle.std.proofs.Common.{◌∙◌, ap, arith}
+use Rattle.shared_disk.specs.State.{State}
+use Rattle.first_run.specs.KeyLaws.{keys-same}
 use Rattle.vol_base.specs.declared.command.Command.TheVariants.{Join}
 use Rattle.std.proofs.lemmas.Result.{IfOk-weaker}
 use Rattle.first_run.specs.JoinLaws.{cut-between, cut-join, ends-paid, joined-between, joined-step}
 use Rattle.first_run.specs.KeylessLaws.{between-same, ends-same, keyless-step}
-use Rattle.first_run.specs.RegisterLaws.{served-registered, volume-registered}
+use Rattle.first_run.specs.RegisterLaws.{keys-joined, served-registered, volume-registered}
 use Rattle.first_run.specs.SeatLaws.{length-kept}
 use Rattle.first_run.specs.TellsLaws.{tells-kept}
 use Rattle.first_run.specs.declared.seat.Seat.TheVariants.{Out}
@@ -86,3 +88,15 @@ returns-in-Err-pay-clause-memory g c =
 pub returns-in-Err-pay-clause-blocks : goal.returns-in-Err-pay-clause-blocks
 returns-in-Err-pay-clause-blocks g c =
     length-kept (g.D.Device.state c.register.new.self) (g.D.Device.state c.pay.new.disk) c.pay.ensures.only ∙ c.register.ensures.blocks
+
+pub returns-in-Err-clause-keys : goal.returns-in-Err-clause-keys
+returns-in-Err-clause-keys g c =
+    keys-same (g.D.Device.state c.args.disk.now) (g.D.Device.state c.register.new.self) (ap (λ (s : State). s.keys) c.in-Err.ensures.same)
+
+pub returns-in-Ok-pay-clause-keys : goal.returns-in-Ok-pay-clause-keys
+returns-in-Ok-pay-clause-keys g c =
+    keys-joined (g.D.Device.state c.args.disk.now) (g.D.Device.state c.register.new.self) (g.D.Device.state c.pay.new.disk) c.in-Ok.ensures.done c.pay.ensures.only
+
+pub returns-in-Err-pay-clause-keys : goal.returns-in-Err-pay-clause-keys
+returns-in-Err-pay-clause-keys g c =
+    keys-joined (g.D.Device.state c.args.disk.now) (g.D.Device.state c.register.new.self) (g.D.Device.state c.pay.new.disk) c.in-Ok.ensures.done c.pay.ensures.only

@@ -17,6 +17,7 @@ loop-position-init g c =
     record {
       run = rw (c.in_ok-with_capacity.ensures.items, c.in_ok-with_capacity-2.ensures.items) begun;
       between = between-begun c.args.geometry.now device faults c.requires.geometry c.requires.long c.requires.volume;
+      keys = λ key has. has;
       blocks = search arith;
       later = omega arith;
     }
@@ -50,6 +51,7 @@ loop-position-preserved g c =
           c.add.new.ran.history.items begun middle device faults c.in_ok-done.done.seat c.add.new.ran.seat c.in_ok-done.done.answer c.in_ok-done.done.placed (omega arith) c.requires.lines
           c.loop-position.invariant.run c.in_ok-done.ensures.step c.in_ok-add.ensures.answers c.in_ok-add.ensures.history c.in_ok-add.ensures.seat;
       between = subst (λ (s : Seat). IsBetween c.args.geometry.now (run_state device faults s)) (sym c.in_ok-add.ensures.seat) c.in_ok-done.ensures.between;
+      keys = λ key has. c.step.ensures.keys key (c.loop-position.invariant.keys key has);
       blocks = c.step.ensures.blocks ∙ c.loop-position.invariant.blocks;
       later = omega (arith, c.step.ensures.later, c.loop-position.invariant.later);
     }
@@ -59,3 +61,6 @@ returns-clause-fits g c = c.loop-position.invariant.run.fits
 
 pub returns-clause-valid : goal.returns-clause-valid
 returns-clause-valid g c = uncut-valid _ _ _ _ _ _ _ c.loop-position.invariant.run.steps refl c.loop-position.invariant.between.volume
+
+pub returns-in_err-done-clause-keys : goal.returns-in_err-done-clause-keys
+returns-in_err-done-clause-keys g c = λ key has. c.step.ensures.keys key (c.loop-position.invariant.keys key has)

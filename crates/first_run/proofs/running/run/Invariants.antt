@@ -1,6 +1,6 @@
 use Rattle.std.proofs.Common.{◌≡◌, ◌≤◌}
 use Rattle.first_run.specs.RunLaws.{AreRun}
-use Rattle.first_run.specs.Seats.{IsBetween, run_state}
+use Rattle.first_run.specs.Seats.{IsBetween, KeepsKeys, run_state}
 use Rattle.first_run.specs.declared.seat.Owed.TheVariants as owing
 use Rattle.first_run.specs.declared.seat.Seat.TheVariants as seats
 use Rattle.first_run.proofs.running.run.Given as goal
@@ -12,6 +12,7 @@ invariant-loop-position g l =
     record {
       run : AreRun l.geometry l.lines l.position l.ran.answers.items l.ran.history.items begun now;
       between : IsBetween l.geometry now;
+      keys : KeepsKeys (g.D.Device.state l.initial.disk) (g.D.Device.state l.disk);
       blocks : (g.D.Device.state l.disk).blocks ≡ (g.D.Device.state l.initial.disk).blocks;
       later : g.D.Device.faults l.initial.disk ≤ g.D.Device.faults l.disk;
     }

@@ -3,7 +3,8 @@ use Rattle.vol_base.specs.PlainCalls.{plain_call_of}
 use Rattle.std.proofs.lemmas.Result.{IfOk-weaker}
 use Rattle.first_run.specs.BuiltLaws.{built-call, built-plain, some-none}
 use Rattle.first_run.specs.CallSteps.{answered-between, answered-step, ends-halted, halted-between, halted-step, served-joined}
-use Rattle.first_run.specs.SeatLaws.{length-kept}
+use Rattle.first_run.specs.KeyLaws.{keys-same}
+use Rattle.first_run.specs.SeatLaws.{keys-kept, length-kept}
 use Rattle.first_run.proofs.Results.{both-ok, on-err}
 use Rattle.first_run.proofs.step.do_file_command.Goals as goal
 
@@ -61,3 +62,15 @@ returns-in-Err-clause-memory g c =
 
 pub returns-in-Err-clause-blocks : goal.returns-in-Err-clause-blocks
 returns-in-Err-clause-blocks g c = length-kept (g.D.Device.state c.args.disk.now) (g.D.Device.state c.make_call.new.disk) c.make_call.ensures.only
+
+pub returns-in-Ok-clause-keys : goal.returns-in-Ok-clause-keys
+returns-in-Ok-clause-keys g c =
+    let before = g.D.Device.state c.args.disk.now in
+    let after = g.D.Device.state c.make_call.new.disk in
+    keys-same before after (keys-kept before after c.make_call.ensures.only)
+
+pub returns-in-Err-clause-keys : goal.returns-in-Err-clause-keys
+returns-in-Err-clause-keys g c =
+    let before = g.D.Device.state c.args.disk.now in
+    let after = g.D.Device.state c.make_call.new.disk in
+    keys-same before after (keys-kept before after c.make_call.ensures.only)

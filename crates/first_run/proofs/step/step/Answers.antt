@@ -43,6 +43,7 @@ returns-in-Out-seat g c =
           (down-step c.args.geometry.now c.args.command.now s c.in_default.not-Join (λ joined. subst (λ (seat : Seat). IsJoined seat) c.in-Out-seat.is joined));
       between = rw c.placeless-in-Out-seat.ensures c.requires.between;
       memory = tt;
+      keys = λ key has. has;
       blocks = refl;
       later = omega arith;
     }
@@ -52,6 +53,7 @@ returns-in-Joined-seat g c = record {
   step = rw c.in-Joined-seat.is c.do_file_command.ensures.step;
   between = c.do_file_command.ensures.between;
   memory = c.do_file_command.ensures.memory;
+  keys = c.do_file_command.ensures.keys;
   blocks = c.do_file_command.ensures.blocks;
   later = c.do_file_command.ensures.later;
 }

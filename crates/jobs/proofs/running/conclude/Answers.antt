@@ -12,7 +12,7 @@ survey-requires g c =
 
 pub returns-in-Ok-clause-concluded : goal.returns-in-Ok-clause-concluded
 returns-in-Ok-clause-concluded g c =
-    reported _ _ _ _ _ _ _ c.report_with.ensures c.in-Ok.ensures.usage (λ at. let no = c.survey.ensures.no_keys.1 at in let is = c.in-Ok.is in cc) c.in-Ok.ensures.done
+    reported _ _ _ _ _ _ _ c.survey.ensures.visiting c.report_with.ensures c.in-Ok.ensures.usage (λ at. let no = c.survey.ensures.no_keys.1 at in let is = c.in-Ok.is in cc) c.in-Ok.ensures.done
 
 pub returns-in-Err-Failed-clause-concluded : goal.returns-in-Err-Failed-clause-concluded
 returns-in-Err-Failed-clause-concluded g c =

@@ -44,11 +44,11 @@ returns-in-Ok-clause-decided g c =
     let opens = opened_device _ _ _ _ _ (λ at. let no_keys = c.open_idle.ensures.no_keys.1 at in let is = c.in-Ok-None.is in cc) start.long start.opened start.visited start.images start.used start.later in
     concluded _ _ _ _ _
     (finished_run c.args.workload.now old opened closed _ c.in-Ok.ran.seat c.as_slice.result.now c.in-Ok.ran.answers.items c.in-Ok.ran.history.items
-    opens (subst Answers c.in-Ok-None.field-0-is start.slots) c.as_slice.ensures run.steps run.positions run.answered (run.fits (subst ArePhased (sym c.as_slice.ensures) c.requires.phased)) run.files run.volume run.valid run.later c.conclude.ensures.told)
+    opens (subst Answers c.in-Ok-None.field-0-is start.slots) c.as_slice.ensures run.steps run.positions run.answered (run.fits (subst ArePhased (sym c.as_slice.ensures) c.requires.phased)) run.files run.volume run.valid run.later c.run.ensures.keys c.conclude.ensures.told)
     c.conclude.ensures.concluded
 
 pub returns-in-Err-run-clause-decided : goal.returns-in-Err-run-clause-decided
 returns-in-Err-run-clause-decided g c =
     let start = c.in-Ok-None.ensures in
     let opens = opened_device _ _ _ _ _ (λ at. let no_keys = c.open_idle.ensures.no_keys.1 at in let is = c.in-Ok-None.is in cc) start.long start.opened start.visited start.images start.used start.later in
-    memory_refused c.args.workload.now _ _ _ _ opens c.as_slice.ensures (c.in-Err-run.ensures.memory (subst ArePhased (sym c.as_slice.ensures) c.requires.phased))
+    memory_refused c.args.workload.now _ _ _ _ opens c.as_slice.ensures (c.in-Err-run.ensures.memory (subst ArePhased (sym c.as_slice.ensures) c.requires.phased)) c.run.ensures.keys
