@@ -10,19 +10,19 @@ use Rattle.image_view.specs.Balances.{edit}
 use Rattle.image_view.specs.Images.{Image}
 use Rattle.image_view.specs.Numbers.{logical}
 use Rattle.first_run.specs.declared.seat.Owed.TheVariants as owing
-use Rattle.first_run.specs.CallLaws.{file-absent}
-use Rattle.first_run.specs.CreateLaws.{created-files}
+use Rattle.first_run.proofs.CallLaws.{file-absent}
+use Rattle.first_run.proofs.CreateLaws.{created-files}
 use Rattle.first_run.specs.Effects.{Changes, IsAfterCall, IsReplyOf}
 use Rattle.first_run.specs.Halts.{IsStored}
 use Rattle.first_run.specs.Made.{IsReplied}
 use Rattle.first_run.specs.Owing.{IsKept}
-use Rattle.first_run.specs.RepliedLaws.{replied-left}
-use Rattle.first_run.specs.ReplyLaws.{LeavesFile, leaves-exists}
-use Rattle.first_run.specs.SeatLaws.{counter-kept}
+use Rattle.first_run.proofs.RepliedLaws.{replied-left}
+use Rattle.first_run.proofs.ReplyLaws.{LeavesFile, leaves-exists}
+use Rattle.first_run.proofs.SeatLaws.{counter-kept}
 use Rattle.first_run.specs.Seats.{ChangesContent, HasVolume, OnImages}
-use Rattle.first_run.specs.StoreLaws.{head-kept, stored-becomes}
-use Rattle.first_run.specs.ToldFacts.{told-both, told-fact}
-use Rattle.first_run.specs.ToldLaws.{told-after, told-weaker}
+use Rattle.first_run.specs.laws.StoreLaws.{head-kept, stored-becomes}
+use Rattle.first_run.proofs.ToldFacts.{told-both, told-fact}
+use Rattle.first_run.specs.laws.ToldLaws.{told-after, told-weaker}
 
 -- a volume with a file of n blocks
 abbrev HasLength : Geometry → ℕ → ℕ → ℕ → Image → Type 0

@@ -10,16 +10,16 @@ use Rattle.image_view.specs.Balances.{edit}
 use Rattle.image_view.specs.Images.{Image}
 use Rattle.image_view.specs.Numbers.{logical}
 use Rattle.image_view.specs.Pointers.{named}
-use Rattle.first_run.specs.BecomesLaws.{becomes-kept}
+use Rattle.first_run.proofs.BecomesLaws.{becomes-kept}
 use Rattle.first_run.specs.Effects.{blocks_of, cleared}
 use Rattle.first_run.proofs.RemainsTold.{Clears}
 use Rattle.first_run.specs.Halts.{IsPaid, IsStopped, IsStored}
 use Rattle.first_run.specs.Owing.{IsKept, edits_owed}
 use Rattle.first_run.specs.declared.halt.Halt.{Halt}
 use Rattle.first_run.specs.declared.seat.Owed.TheVariants.{Nothing}
-use Rattle.first_run.specs.SeatLaws.{counter-kept}
-use Rattle.first_run.specs.RemainLaws.{emptied-becomes, emptied-kept, past-shows}
-use Rattle.first_run.specs.SameFiles.{shown-files}
+use Rattle.first_run.proofs.SeatLaws.{counter-kept}
+use Rattle.first_run.proofs.RemainLaws.{emptied-becomes, emptied-kept, past-shows}
+use Rattle.first_run.proofs.SameFiles.{shown-files}
 use Rattle.first_run.specs.Seats.{ChangesContent, HasVolume, OnImages}
 
 -- a pointer past its file's end that names a data block, and that block's count less 1

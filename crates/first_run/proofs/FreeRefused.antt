@@ -8,7 +8,7 @@ use Rattle.shared_disk.specs.State.{Told}
 use Rattle.volume_tables.specs.declared.access.AccessNo.{AccessNo}
 use Rattle.volume_tables.specs.declared.access.AccessNo.TheVariants.{Failed, Bad, NoMemory}
 use Rattle.volume_tables.specs.Free.{HasGroupTables, IsGroupPlace}
-use Rattle.volume_tables.specs.WriteLaws.{readable_table}
+use Rattle.volume_tables.specs.laws.WriteLaws.{readable_table}
 use Rattle.first_run.specs.Halts.{IsReadableNow, IsRefusedFor}
 
 pub refused_free : {T : Type 0} (g : Geometry) (counter : ℕ) (told : Option Told) (before now : ℕ) (r : Result T AccessNo) (e : AccessNo) → r ≡ Err e → IfSome told (λ t. IsReadableNow g counter t.image)

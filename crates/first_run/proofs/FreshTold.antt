@@ -21,19 +21,19 @@ use Rattle.image_view.specs.declared.pointer.Number.TheVariants.{At}
 use Rattle.volume_tables.specs.Free.{IsLowestFree}
 use Rattle.first_run.specs.declared.seat.Owed.{Owed}
 use Rattle.first_run.specs.declared.seat.Owed.TheVariants as owing
-use Rattle.first_run.specs.DataLaws.{data-kept}
+use Rattle.first_run.specs.laws.DataLaws.{data-kept}
 use Rattle.first_run.specs.DataTold.{IsWritten, data-content, data-told}
 use Rattle.first_run.specs.Effects.{Changes, IsAfterCall, IsReplyOf, WritesFresh}
-use Rattle.first_run.specs.FreshLaws.{fresh-unmarked}
-use Rattle.first_run.specs.FreshSteps.{MayWriteFresh, fresh-call, fresh-changes, fresh-data, fresh-pointer}
+use Rattle.first_run.proofs.FreshLaws.{fresh-unmarked}
+use Rattle.first_run.proofs.FreshSteps.{MayWriteFresh, fresh-call, fresh-changes, fresh-data, fresh-pointer}
 use Rattle.first_run.specs.Halts.{IsHalted, IsPaid, IsStored}
 use Rattle.first_run.specs.Made.{IsFull, IsReplied}
 use Rattle.first_run.specs.Owing.{IsKept, counts_of, edits_owed}
-use Rattle.first_run.specs.SeatLaws.{counter-kept}
+use Rattle.first_run.proofs.SeatLaws.{counter-kept}
 use Rattle.first_run.specs.Seats.{ChangesContent, HasVolume, OnImages}
-use Rattle.first_run.specs.ToldFacts.{told-both, told-fact}
-use Rattle.first_run.specs.ToldLaws.{told-after, told-trans, told-weaker}
-use Rattle.first_run.specs.WrittenLaws.{write-reply}
+use Rattle.first_run.proofs.ToldFacts.{told-both, told-fact}
+use Rattle.first_run.specs.laws.ToldLaws.{told-after, told-trans, told-weaker}
+use Rattle.first_run.proofs.WrittenLaws.{write-reply}
 
 -- what is known before the first block is written
 pub record MayWrite (g : Geometry) (device : State) (f i d : ℕ) (shared : Option ℕ) (owed : List Edit) : Type 0 where

@@ -19,13 +19,13 @@ use Rattle.image_view.specs.declared.pointer.Number.TheVariants.{At}
 use Rattle.first_run.specs.declared.seat.Owed.TheVariants as owing
 use Rattle.first_run.specs.DataTold.{IsWritten, data-told, data-volume}
 use Rattle.first_run.specs.Effects.{Changes, IsAfterCall, IsReplyOf}
-use Rattle.first_run.specs.InPlaceLaws.{in_place-files, in_place-writes}
+use Rattle.first_run.proofs.InPlaceLaws.{in_place-files, in_place-writes}
 use Rattle.first_run.specs.Made.{IsReplied}
 use Rattle.first_run.specs.Owing.{IsKept}
 use Rattle.first_run.specs.Seats.{HasVolume, OnImages}
-use Rattle.first_run.specs.ToldFacts.{told-both, told-fact}
-use Rattle.first_run.specs.ToldLaws.{told-weaker}
-use Rattle.first_run.specs.WrittenLaws.{write-reply}
+use Rattle.first_run.proofs.ToldFacts.{told-both, told-fact}
+use Rattle.first_run.specs.laws.ToldLaws.{told-weaker}
+use Rattle.first_run.proofs.WrittenLaws.{write-reply}
 
 -- a file's block whose pointer has no mark
 pub record IsOwn (g : Geometry) (counter f i d : ℕ) (image : Image) : Type 0 where

@@ -14,8 +14,8 @@ use Rattle.first_run.specs.declared.seat.Owed.{Owed}
 use Rattle.first_run.specs.declared.seat.Owed.TheVariants.{One, Two}
 use Rattle.first_run.specs.Halts.{IsPaid, IsStored}
 use Rattle.first_run.specs.Owing.{AreOwed, edit_of, edits_owed}
-use Rattle.first_run.specs.PaidLaws.{paid-one, paid-trans}
-use Rattle.first_run.specs.SeatLaws.{counter-kept}
+use Rattle.first_run.proofs.PaidLaws.{paid-one, paid-trans}
+use Rattle.first_run.proofs.SeatLaws.{counter-kept}
 use Rattle.first_run.specs.Seats.{ChangesContent, OnImages}
 
 -- the last count in the list is written

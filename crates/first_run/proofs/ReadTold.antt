@@ -10,18 +10,18 @@ use Rattle.vol_layout.specs.declared.kind.Kind.TheVariants as kinds
 use Rattle.vol_layout.specs.declared.field.Field.TheVariants.{Head, Pointer}
 use Rattle.shared_disk.specs.State.{State}
 use Rattle.image_view.specs.Files.{content}
-use Rattle.image_view.specs.FileLaws.{shown}
+use Rattle.image_view.specs.laws.FileLaws.{shown}
 use Rattle.image_view.specs.Images.{Image, block_at}
 use Rattle.image_view.specs.Numbers.{logical}
 use Rattle.image_view.specs.Pointers.{named}
 use Rattle.first_run.specs.declared.seat.Owed.TheVariants as owing
-use Rattle.first_run.specs.FileShows.{content-hole, content-named}
+use Rattle.first_run.proofs.FileShows.{content-hole, content-named}
 use Rattle.first_run.specs.Made.{IsReplied}
 use Rattle.first_run.specs.Owing.{IsKept}
-use Rattle.first_run.specs.RepliedLaws.{replied-left}
-use Rattle.first_run.specs.ReplyLaws.{LeavesFile, leaves-read}
+use Rattle.first_run.proofs.RepliedLaws.{replied-left}
+use Rattle.first_run.proofs.ReplyLaws.{LeavesFile, leaves-read}
 use Rattle.first_run.specs.Seats.{HasVolume}
-use Rattle.first_run.specs.ToldFacts.{told-both, told-fact}
+use Rattle.first_run.proofs.ToldFacts.{told-both, told-fact}
 
 -- the bytes of a block make the block
 block_of : (block : Block) (bytes : List ℕ) → block.0 ≡ bytes → block ≡ (let b : Block = record { 0 = bytes } in b)

@@ -16,10 +16,10 @@ use Rattle.first_run.specs.declared.seat.Owed.TheVariants as owing
 use Rattle.first_run.specs.Effects.{Changes}
 use Rattle.first_run.specs.Made.{IsReplied}
 use Rattle.first_run.specs.Owing.{IsKept}
-use Rattle.first_run.specs.RepliedLaws.{replied-left}
-use Rattle.first_run.specs.ReplyLaws.{BlockCall, LeavesFile, leaves-absent, leaves-beyond, leaves-too_long}
+use Rattle.first_run.proofs.RepliedLaws.{replied-left}
+use Rattle.first_run.proofs.ReplyLaws.{BlockCall, LeavesFile, leaves-absent, leaves-beyond, leaves-too_long}
 use Rattle.first_run.specs.Seats.{HasVolume}
-use Rattle.first_run.specs.ToldFacts.{told-both, told-fact}
+use Rattle.first_run.proofs.ToldFacts.{told-both, told-fact}
 
 -- by the head of the file
 by_head : (g : Geometry) (before after : State) (call : PlainCall) (reply : PlainReply) (head : ℕ) → after ≡ before → ((image : Image) → Changes g call reply image image) → HasVolume g before owing.Nothing

@@ -10,12 +10,12 @@ use Rattle.image_view.specs.Numbers.{logical}
 use Rattle.first_run.specs.Effects.{Becomes, blocks_of, cleared}
 use Rattle.first_run.specs.Halts.{IsReadableNow, IsStopped}
 use Rattle.first_run.specs.Owing.{IsKept}
-use Rattle.first_run.specs.RemainLaws.{past-shows}
-use Rattle.first_run.specs.SameFiles.{shown-files}
+use Rattle.first_run.proofs.RemainLaws.{past-shows}
+use Rattle.first_run.proofs.SameFiles.{shown-files}
 use Rattle.first_run.specs.Seats.{ChangesContent, HasVolume, OnImages}
-use Rattle.first_run.specs.ToldLaws.{told-same}
-use Rattle.first_run.specs.SeatLaws.{counter-kept}
-use Rattle.first_run.specs.TellsLaws.{tells-kept}
+use Rattle.first_run.specs.laws.ToldLaws.{told-same}
+use Rattle.first_run.proofs.SeatLaws.{counter-kept}
+use Rattle.first_run.proofs.TellsLaws.{tells-kept}
 use Rattle.first_run.specs.declared.seat.Owed.TheVariants.{Nothing}
 
 -- the pointers of a file from one index to below another are holes, and nothing else but counts changed

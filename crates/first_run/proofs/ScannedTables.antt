@@ -11,10 +11,10 @@ use Rattle.shared_disk.specs.State.{Told}
 use Rattle.image_view.specs.Images.{Image}
 use Rattle.image_view.specs.Numbers.{logical}
 use Rattle.image_view.specs.Pointers.{named}
-use Rattle.volume_tables.specs.NumberLaws.{field-number_in}
+use Rattle.volume_tables.specs.laws.NumberLaws.{field-number_in}
 use Rattle.volume_tables.specs.Tables.{IsTableOf, number_in}
 use Rattle.first_run.specs.Halts.{IsFirstRemain, IsReadableNow}
-use Rattle.first_run.specs.KeptLaws.{logical-field}
+use Rattle.first_run.specs.laws.KeptLaws.{logical-field}
 
 -- the pointers of a file from one index to below another stand in a table that was read
 pub record IsScanned (f at next : ℕ) (t : Table) : Type 0 where

@@ -15,14 +15,14 @@ use Rattle.first_run.specs.Effects.{Becomes, Changes, IsAfterCall, IsReplyOf, bl
 use Rattle.first_run.specs.Halts.{IsHalted, IsStored}
 use Rattle.first_run.specs.Made.{IsReplied}
 use Rattle.first_run.specs.Owing.{IsKept}
-use Rattle.first_run.specs.RemainLaws.{past-shows}
-use Rattle.first_run.specs.SameFiles.{shown-files}
-use Rattle.first_run.specs.SeatLaws.{counter-kept}
+use Rattle.first_run.proofs.RemainLaws.{past-shows}
+use Rattle.first_run.proofs.SameFiles.{shown-files}
+use Rattle.first_run.proofs.SeatLaws.{counter-kept}
 use Rattle.first_run.specs.Seats.{ChangesContent, HasVolume, OnImages}
-use Rattle.first_run.specs.SizeLaws.{resized, resized-becomes, resized-changes, resized-files, resized-kept, size-reply}
-use Rattle.first_run.specs.StoreLaws.{head-kept, stored-becomes}
-use Rattle.first_run.specs.ToldFacts.{told-both, told-fact, told-since, told-upon}
-use Rattle.first_run.specs.ToldLaws.{told-after, told-trans, told-weaker}
+use Rattle.first_run.proofs.SizeLaws.{resized, resized-becomes, resized-changes, resized-files, resized-kept, size-reply}
+use Rattle.first_run.specs.laws.StoreLaws.{head-kept, stored-becomes}
+use Rattle.first_run.proofs.ToldFacts.{told-both, told-fact, told-since, told-upon}
+use Rattle.first_run.specs.laws.ToldLaws.{told-after, told-trans, told-weaker}
 
 -- a volume whose file has n blocks
 abbrev HasLength : Geometry → ℕ → ℕ → ℕ → Image → Type 0

@@ -14,15 +14,15 @@ use Rattle.vol_layout.specs.Ranges.{HasTable}
 use Rattle.shared_disk.specs.Calls.{after_write, told_after}
 use Rattle.shared_disk.specs.State.{State, Told}
 use Rattle.image_view.specs.Balances.{edit}
-use Rattle.image_view.specs.FrameLaws.{write_only}
+use Rattle.image_view.specs.laws.FrameLaws.{write_only}
 use Rattle.image_view.specs.Numbers.{logical}
 use Rattle.volume_tables.specs.declared.access.AccessNo.{AccessNo}
 use Rattle.volume_tables.specs.declared.access.AccessNo.TheVariants.{Failed, Bad, NoMemory}
-use Rattle.volume_tables.specs.NumberLaws.{IsPackingOf-with_number, Turns-none, Turns-set, field-number_in}
+use Rattle.volume_tables.specs.laws.NumberLaws.{IsPackingOf-with_number, Turns-none, Turns-set, field-number_in}
 use Rattle.volume_tables.specs.Tables.{IsPackingOf, IsSpelledTable, IsTableOf, Turns, number_in, with_number}
-use Rattle.volume_tables.specs.WriteLaws.{IsEdited-with_table, IsReadable-with_table, readable_table, standing-with_table}
+use Rattle.volume_tables.specs.laws.WriteLaws.{IsEdited-with_table, IsReadable-with_table, readable_table, standing-with_table}
 use Rattle.first_run.specs.Halts.{IsReadableNow, IsRefusedFor, IsStored}
-use Rattle.first_run.specs.KeptLaws.{logical-field}
+use Rattle.first_run.specs.laws.KeptLaws.{logical-field}
 use Rattle.first_run.specs.Seats.{OnImages}
 
 -- the number of a field in the table that was read is its logical number

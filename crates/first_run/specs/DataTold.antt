@@ -10,10 +10,10 @@ use Rattle.shared_disk.specs.Calls.{after_write, told_after}
 use Rattle.shared_disk.specs.State.{State, Told}
 use Rattle.image_view.specs.Images.{Image}
 use Rattle.first_run.specs.declared.seat.Owed.TheVariants as owing
-use Rattle.first_run.specs.DataLaws.{data-kept}
+use Rattle.first_run.specs.laws.DataLaws.{data-kept}
 use Rattle.first_run.specs.Owing.{IsKept}
 use Rattle.first_run.specs.Seats.{ChangesContent, HasVolume, OnImages}
-use Rattle.first_run.specs.ToldLaws.{told-after}
+use Rattle.first_run.specs.laws.ToldLaws.{told-after}
 
 -- one block was written
 abbrev pub IsWritten : ℕ → List ℕ → Image → Image → Type 0

@@ -17,7 +17,7 @@ use Rattle.image_view.specs.Images.{Image, block_at}
 use Rattle.image_view.specs.Numbers.{logical, standing}
 use Rattle.image_view.specs.Pointers.{named}
 use Rattle.image_view.specs.Records.{IsEdited}
-use Rattle.volume_check.specs.Readable.{IsReadable}
+use Rattle.volume_faults.specs.Readable.{IsReadable}
 use Rattle.volume_tables.specs.declared.access.AccessNo.{AccessNo}
 use Rattle.volume_tables.specs.declared.access.AccessNo.TheVariants as refusals
 use Rattle.first_run.specs.Effects.{Becomes, IsAfterCall, IsReplyOf, KeepsFiles, blocks_of}

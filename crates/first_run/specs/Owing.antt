@@ -11,7 +11,7 @@ use Rattle.image_view.specs.Numbers.{logical, standing}
 use Rattle.image_view.specs.Pointers.{IsUnmarked}
 use Rattle.image_view.specs.Mappings.{uses}
 use Rattle.image_view.specs.Held.{IsHeld}
-use Rattle.volume_check.specs.Readable.{IsReadable}
+use Rattle.volume_faults.specs.Readable.{IsReadable}
 use Rattle.first_run.specs.declared.seat.CountEdit.{CountEdit}
 use Rattle.first_run.specs.declared.seat.Owed.{Owed}
 use Rattle.first_run.specs.declared.seat.Owed.TheVariants as owing

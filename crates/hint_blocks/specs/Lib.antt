@@ -1,4 +1,3 @@
 pub mod Entries
-pub mod EntryLaws
 pub mod HintLists
-pub mod HintListLaws
+pub mod laws

@@ -16,7 +16,7 @@ ghost use Rattle.hint_blocks.specs.Entries.{
   request_of,
   target_of,
 };
-ghost use Rattle.hint_blocks.specs.EntryLaws.{
+ghost use Rattle.hint_blocks.specs.laws.EntryLaws.{
   index_entry_of-index_bytes,
   index_entry_in_range,
   log_entry_of-log_bytes,

@@ -25,7 +25,7 @@ impl<T: Hint> Model for Hints<T> {
     ghost use Rattle.std.specs.List.{filter_map};
     ghost use Rattle.vol_layout.specs.Ranges.{IsGeometry};
     ghost use Rattle.hint_blocks.specs.HintLists.{HintList};
-    ghost use Rattle.hint_blocks.specs.HintListLaws.{IsSpelling};
+    ghost use Rattle.hint_blocks.specs.laws.HintListLaws.{IsSpelling};
 
     ghost Value = { HintList T };
 

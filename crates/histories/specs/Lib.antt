@@ -1,13 +1,8 @@
 pub mod Answers
 pub mod Fit
-pub mod FitLaws
 pub mod Fronts
-pub mod FrontLaws
 pub mod Joined
-pub mod Lines
 pub mod LineCalls
+pub mod Lines
 pub mod Phases
-pub mod PushLaws
-pub mod EntryLaws
-pub mod AnswerLaws
-pub mod PhaseLaws
+pub mod laws

@@ -10,7 +10,7 @@ use Rattle.std.proofs.lemmas.List.{drop_all, get_or-map, length-map}
 use Rattle.std.proofs.lemmas.List.Sums.{sum_by-cons}
 use Rattle.vol_base.specs.declared.block.Block.{Block}
 use Rattle.vol_base.specs.Bytes.{number_at, u32_at, zeros}
-use Rattle.vol_base.specs.BytesLaws.{number_at-drop, number_at-zeros}
+use Rattle.vol_base.specs.laws.BytesLaws.{number_at-drop, number_at-zeros}
 use Rattle.vol_layout.specs.declared.field.Field.{Field}
 use Rattle.vol_layout.specs.declared.field.Field.TheVariants.{Head, Pointer, Slot, Count}
 use Rattle.vol_layout.specs.declared.field.Edit.{Edit}
@@ -23,15 +23,15 @@ use Rattle.vol_layout.specs.declared.kind.Table.{Table}
 use Rattle.vol_layout.specs.Places.{place_of}
 use Rattle.vol_layout.specs.Regions.{total}
 use Rattle.vol_layout.specs.Ranges.{arena_slots, limit}
-use Rattle.vol_layout.proofs.PlaceLaws.{place_of-inside}
+use Rattle.vol_layout.specs.laws.PlaceLaws.{place_of-inside}
 use Rattle.image_view.specs.Blocks.{IsVolumeOf, hits, image_of}
 use Rattle.image_view.specs.Mappings.{reference_fields}
 use Rattle.image_view.specs.Balances.{share}
-use Rattle.image_view.specs.UseLaws.{names_one, sum_by-reference_fields}
+use Rattle.image_view.specs.laws.UseLaws.{names_one, sum_by-reference_fields}
 use Rattle.image_view.specs.Pointers.{mark_of, named}
 use Rattle.image_view.specs.Images.{Image, block_at}
 use Rattle.image_view.specs.Numbers.{field, journal, logical, standing}
-use Rattle.image_view.specs.EditLaws.{edited-append}
+use Rattle.image_view.specs.laws.EditLaws.{edited-append}
 use Rattle.image_view.specs.Found.{found}
 use Rattle.vol_layout.specs.declared.geometry.Geometry.{Geometry}
 use Rattle.std.proofs.Common.{add-one, add-zero, zero-add}

@@ -10,7 +10,7 @@ use Rattle.vol_layout.specs.Fields.{IsPointer}
 use Rattle.vol_layout.specs.Ranges.{limit}
 use Rattle.image_view.specs.Numbers.{logical}
 use Rattle.image_view.specs.Balances.{share}
-use Rattle.image_view.specs.UseLaws.{names_one}
+use Rattle.image_view.specs.laws.UseLaws.{names_one}
 
 -- the image of blocks in memory
 abbrev pub image_of : List Block → Image

@@ -3,10 +3,10 @@ use Rattle.std.proofs.Common.{◌≡◌, ◌⊎◌, ◌+◌, ℕ, List, Option, 
 use Rattle.std.specs.Io.KnownBytes.{Appends}
 use Rattle.std.proofs.lemmas.Bool.{false≢true}
 use Rattle.std.proofs.lemmas.Slice.Eq.{bytes_eq-Decides}
-use Rattle.image_view.specs.GeometryLaws.{not_blank}
+use Rattle.image_view.specs.laws.GeometryLaws.{not_blank}
 use Rattle.image_view.specs.Images.{Image, IsBlank, first_block, geometry_of}
 use Rattle.image_view.specs.Valid.{IsVolume}
-use Rattle.image_view.specs.ValidLaws.{IsValid-later}
+use Rattle.image_view.specs.laws.ValidLaws.{IsValid-later}
 use Rattle.shared_disk.specs.State.{State, Told}
 use Rattle.vol_base.specs.Bytes.{zeros}
 use Rattle.vol_base.specs.Faults.{Rose}

@@ -10,14 +10,14 @@ use Rattle.vol_layout.specs.Regions.{total}
 use Rattle.shared_disk.specs.State.{State, Told}
 use Rattle.workload.specs.declared.line.Workload.{Workload}
 use Rattle.image_view.specs.Formatted.{IsFormatted}
-use Rattle.image_view.specs.GeometryLaws.{IsVolume-valid, not_blank}
+use Rattle.image_view.specs.laws.GeometryLaws.{IsVolume-valid, not_blank}
 use Rattle.image_view.specs.Images.{Image, IsBlank, first_block}
 use Rattle.image_view.specs.Valid.{IsValid}
-use Rattle.image_view.specs.ValidLaws.{IsValid-later}
+use Rattle.image_view.specs.laws.ValidLaws.{IsValid-later}
 use Rattle.volume_faults.specs.declared.fault.Fault.{Fault}
 use Rattle.volume_faults.specs.Faults.{AreFaults}
-use Rattle.volume_faults.specs.ValidityLaws.{valid_has_no_fault}
-use Rattle.volume_opening.specs.MisfitLaws.{blank_fits, volume_fits}
+use Rattle.volume_faults.specs.laws.ValidityLaws.{valid_has_no_fault}
+use Rattle.volume_opening.specs.laws.MisfitLaws.{blank_fits, volume_fits}
 use Rattle.volume_opening.specs.Misfits.{misfit}
 use Rattle.volume_opening.specs.Slots.{AreIdle, IsFirstHeld}
 use Rattle.first_run.specs.Runs.{LeadsFiles}

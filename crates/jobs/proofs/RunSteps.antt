@@ -4,13 +4,13 @@ use Rattle.std.specs.Prelude.{◌↔◌, ◌≤◌, All, Err, IfSome, IsSome, Re
 use Rattle.vol_base.specs.declared.answer.Answer.{Answer}
 use Rattle.vol_base.specs.Faults.{Rose}
 use Rattle.vol_base.specs.Bytes.{u64_at, zeros}
-use Rattle.vol_base.specs.BytesLaws.{number_at-behind, number_at-zeros}
+use Rattle.vol_base.specs.laws.BytesLaws.{number_at-behind, number_at-zeros}
 use Rattle.vol_layout.specs.declared.geometry.Geometry.{Geometry}
 use Rattle.vol_layout.specs.Regions.{total}
 use Rattle.shared_disk.specs.Prefixes.{EachImage, Prefixes}
 use Rattle.shared_disk.specs.Calls.{next_key}
 use Rattle.shared_disk.specs.State.{State, Told}
-use Rattle.shared_disk.proofs.PrefixLaws.{EachImage-ends}
+use Rattle.shared_disk.specs.laws.PrefixLaws.{EachImage-ends}
 use Rattle.plain_files.specs.declared.history.Placed.{Placed}
 use Rattle.plain_files.specs.Plain.{Plain}
 use Rattle.workload.specs.declared.line.Line.{Line}
@@ -28,7 +28,7 @@ use Rattle.histories.specs.Fit.{Fits}
 use Rattle.volume_check.specs.Visits.{IsVisiting, after_visit}
 use Rattle.volume_opening.specs.declared.open_no.OpenNo.{OpenNo}
 use Rattle.volume_opening.specs.declared.open_no.OpenNo.TheVariants as openings
-use Rattle.volume_opening.specs.OpeningLaws.{opening_keeps_files}
+use Rattle.volume_opening.specs.laws.OpeningLaws.{opening_keeps_files}
 use Rattle.volume_opening.specs.Openings.{IsOnTheWay, IsOpened, IsVisited, WasBlank, with_told}
 use Rattle.volume_opening.specs.Refusals.{IsLeft, IsRefused}
 use Rattle.volume_opening.specs.Slots.{AreIdle, IsFirstHeld, IsSlotPlace}
@@ -38,7 +38,7 @@ use Rattle.first_run.specs.declared.seat.Seat.{Seat}
 use Rattle.first_run.specs.declared.seat.Seat.TheVariants as seats
 use Rattle.first_run.specs.Runs.{IsUnheld, Leads, LeadsFiles, Steps}
 use Rattle.first_run.specs.Uncut.{AreUncut}
-use Rattle.first_run.specs.KeyLaws.{keys-more, keys-same}
+use Rattle.first_run.specs.laws.KeyLaws.{keys-more, keys-same}
 use Rattle.first_run.specs.Seats.{KeepsKeys, HasVolume, OnImages, owed_of, run_state}
 use Rattle.jobs.specs.declared.outcome.NoSurvey.{NoSurvey}
 use Rattle.jobs.specs.declared.outcome.Outcome.{Outcome}

@@ -11,9 +11,9 @@ use Rattle.vol_layout.specs.declared.field.Edit.{Edit}
 use Rattle.vol_layout.specs.declared.field.Field.{Field}
 use Rattle.vol_layout.specs.Ranges.{IsGeometry}
 use Rattle.vol_layout.specs.Edits.{IsEdit, touches}
-use Rattle.vol_layout.specs.EditLaws.{other_field-is, touches-append, touches-at, touches-take}
+use Rattle.vol_layout.specs.laws.EditLaws.{other_field-is, touches-append, touches-at, touches-take}
 use Rattle.vol_layout.specs.Journal.{SpellsJournal, edit_at, edit_bytes, journal_bytes}
-use Rattle.vol_layout.specs.JournalLaws.{edit_at-spelled, journal_count-spelled, journal_key-spelled, length-edits}
+use Rattle.vol_layout.specs.laws.JournalLaws.{edit_at-spelled, journal_count-spelled, journal_key-spelled, length-edits}
 use Rattle.journal_block.specs.JournalRecord.{IsJournalRecord, JournalRecord, entry_of}
 
 -- a draft with the first n edits behind it

@@ -1,3 +1,3 @@
 pub mod Counted
 pub mod Decision
-pub mod DecisionLaws
+pub mod laws

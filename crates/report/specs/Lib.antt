@@ -1,4 +1,3 @@
 pub mod Answers
-pub mod ContentLaws
 pub mod Contents
 pub mod Reports

@@ -16,6 +16,10 @@ after_write place block s = record s { told = option_map (told_after place block
 abbrev pub WritesAtMost : ℕ → List ℕ → State → State → Type 0
 WritesAtMost place block before after = (after ≡ before) ⊎ (after ≡ after_write place block before)
 
+-- the counter of a device that has given all its keys, so that a key is below 2 ^ 63
+abbrev pub last_counter : ℕ
+last_counter = 2 ^ 59 - 1
+
 -- the key that a host gets: the counter after its rise, times 16, and the host
 abbrev pub next_key : ℕ → State → ℕ
 next_key host s = (s.counter + 1) * 16 + host

@@ -1,4 +1,7 @@
 pub mod Calls
+pub mod Events
 pub mod MemDisk
 pub mod Prefixes
+pub mod Seen
 pub mod State
+pub mod laws

@@ -6,7 +6,7 @@ use Rattle.slot_lock_blocks.specs.declared.lock.LockWord.{LockWord}
 use Rattle.slot_lock_blocks.specs.declared.lock.LockWord.TheVariants.{Free, Held, Read}
 use Rattle.slot_lock_blocks.specs.ReaderKeys.{AreReaders, StandIn, nobody}
 use Rattle.slot_lock_blocks.specs.LockWords.{SpellsLock}
-use Rattle.slot_lock_blocks.specs.LockLaws.{lock_numbers}
+use Rattle.slot_lock_blocks.specs.laws.LockLaws.{lock_numbers}
 use Rattle.slot_lock_blocks.proofs.KeyLaws.{same_key}
 
 pub is_free : (bytes : List ℕ) (word : LockWord) → SpellsLock bytes word → u32_at bytes 8 ≡ 0 → word ≡ Free

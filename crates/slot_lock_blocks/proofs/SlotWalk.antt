@@ -5,7 +5,7 @@ use Rattle.vol_base.specs.Bytes.{u32_at, u64_at}
 use Rattle.slot_lock_blocks.specs.declared.slot.Slot.{Slot}
 use Rattle.slot_lock_blocks.specs.declared.slot.Slot.TheVariants.{Free, Live, Recovering}
 use Rattle.slot_lock_blocks.specs.Slots.{SpellsSlot}
-use Rattle.slot_lock_blocks.specs.SlotLaws.{slot_numbers}
+use Rattle.slot_lock_blocks.specs.laws.SlotLaws.{slot_numbers}
 use Rattle.slot_lock_blocks.proofs.KeyLaws.{same_key}
 
 -- the numbers that were read, of a slot whose state was read

@@ -1,4 +1,5 @@
-mod Parts
 mod Edited
-mod Sorting
+mod Parts
+pub mod ShelfLaws
 mod Shelving
+mod Sorting

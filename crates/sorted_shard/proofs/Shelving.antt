@@ -12,7 +12,7 @@ use Rattle.vol_base.specs.declared.block.Block.{Block}
 use Rattle.vol_layout.specs.declared.geometry.Geometry.{Geometry}
 use Rattle.hint_blocks.specs.declared.entry.IndexEntry.{IndexEntry}
 use Rattle.hint_blocks.specs.Entries.{IsIndexEntry, index_entry_of}
-use Rattle.hint_blocks.specs.HintListLaws.{length-without, pushed_over-room}
+use Rattle.hint_blocks.specs.laws.HintListLaws.{length-without, pushed_over-room}
 use Rattle.hint_blocks.specs.HintLists.{HintList, hints_in, pushed_over}
 use Rattle.sorted_shard.specs.Shelves.{Gains, IsShelf, IsSortedFrom, ShelfList, digest_of, entries_in, order, without_digest}
 use Rattle.sorted_shard.proofs.Sorting.{inserted, sorted_behind, sorted_without}

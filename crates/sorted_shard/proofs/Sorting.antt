@@ -15,7 +15,7 @@ use Rattle.std.proofs.lemmas.List.Sorted.{IsPartitionedBy-leb, IsPartitionedBy-l
 use Rattle.std.proofs.lemmas.Slice.Eq.{bytes_eq-Decides}
 use Rattle.hint_blocks.specs.declared.entry.IndexEntry.{IndexEntry}
 use Rattle.sorted_shard.specs.Shelves.{IsSortedByDigest, IsSortedFrom, digest_of, order, with_digest, without_digest}
-use Rattle.sorted_shard.specs.Digests.{above_is_other, below_is_other, between_is_same, is_le-index, is_lt-index, le_from_lt, lt_from_above, not_below}
+use Rattle.sorted_shard.specs.laws.DigestLaws.{above_is_other, below_is_other, between_is_same, is_le-index, is_lt-index, le_from_lt, lt_from_above, not_below}
 use Rattle.sorted_shard.proofs.Parts.{All-behind, All-between, All-front, filter_ends, filter_middle, filter_none, three_parts}
 
 -- an element between what is no higher and what is no lower

@@ -1,4 +1,2 @@
-pub mod Digests
 pub mod Shelves
-pub mod ShelfLaws
-pub mod SortedOnce
+pub mod laws

@@ -4,7 +4,7 @@ use Rattle.std.specs.Prelude.{slice_get}
 use borrow.Rule.Slice.PartMut.{mid_of, put_mid}
 use Rattle.vol_base.specs.Bytes.{bytes_of, zeros}
 use Rattle.vol_base.specs.Packing.{IsPacking, Packing, entries_of, packed_bytes, room_of}
-use Rattle.vol_base.specs.PackingLaws.{All-entries_of, concat-entries_of, entries_fit, entries_of-push, entries_of-set, length-entries_of, slice_get-entries_of}
+use Rattle.vol_base.specs.laws.PackingLaws.{All-entries_of, concat-entries_of, entries_fit, entries_of-push, entries_of-set, length-entries_of, slice_get-entries_of}
 
 -- the count is the number of entries that are seen
 pub entry_count : (w n : ℕ) (bytes : List ℕ) (entries : List (List ℕ)) → entries_of w n bytes ≡ entries → n ≡ length entries

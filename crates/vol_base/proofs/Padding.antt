@@ -5,7 +5,7 @@ use Rattle.std.proofs.lemmas.List.{drop-drop}
 use Rattle.std.proofs.lemmas.Slice.{drop-put_mid}
 use borrow.Rule.Slice.PartMut.{put_mid}
 use Rattle.vol_base.specs.Bytes.{zeros}
-use Rattle.vol_base.specs.BytesLaws.{take-zeros, drop-zeros}
+use Rattle.vol_base.specs.laws.BytesLaws.{take-zeros, drop-zeros}
 
 -- zeros from a later place on
 pub drop_padded : (len at : ℕ) (xs : List ℕ) → len ≤ at → at ≤ 4096 → drop len xs ≡ zeros (4096 - len) → drop at xs ≡ zeros (4096 - at)

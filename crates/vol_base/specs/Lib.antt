@@ -1,11 +1,8 @@
 pub mod Bytes
-pub mod BytesLaws
 pub mod Faults
 pub mod Grows
 pub mod NumberBlock
-pub mod NumberBlockLaws
 pub mod Packing
-pub mod PackingLaws
 pub mod PlainCalls
-pub mod RowLaws
 pub mod Turned
+pub mod laws

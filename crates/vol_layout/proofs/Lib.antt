@@ -1,4 +1,1 @@
-pub mod BlankLaws
-pub mod PlaceLaws
 pub mod StartLaws
-pub mod SuperblockLaws

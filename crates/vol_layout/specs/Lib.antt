@@ -1,12 +1,11 @@
 pub mod Blank
-pub mod EditLaws
 pub mod Edits
 pub mod Fields
 pub mod Journal
-pub mod JournalLaws
 pub mod Places
 pub mod Ranges
 pub mod RegionStarts
 pub mod Regions
 pub mod Sizes
 pub mod Superblock
+pub mod laws

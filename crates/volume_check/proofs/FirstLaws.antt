@@ -2,7 +2,7 @@
 use Rattle.std.proofs.Common.{◌≡◌, ◌≢◌, ◌<◌, ℕ, List, [], ◌∷◌, length, refl, ap, inl, inr, arith}
 use Rattle.volume_faults.specs.declared.fault.Fault.{Fault}
 use Rattle.volume_faults.specs.Faults.{AreOfFirst, AreTableFaults, IsOfStage}
-use Rattle.volume_faults.specs.ListLaws.{Adds-lists, passed_without_fault}
+use Rattle.volume_faults.specs.laws.ListLaws.{Adds-lists, passed_without_fault}
 use Rattle.volume_check.specs.Metadatas.{AddsStage, Metadata, Passes}
 
 -- a stage that adds nothing is passed

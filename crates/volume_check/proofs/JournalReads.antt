@@ -9,7 +9,7 @@ use Rattle.std.proofs.lemmas.Option.{get_or_from_slice_get, slice_get_within}
 use Rattle.vol_layout.specs.declared.field.Field.{Field}
 use Rattle.vol_layout.specs.declared.field.Edit.{Edit}
 use Rattle.vol_layout.specs.Edits.{edited, same_field, touches}
-use Rattle.vol_layout.specs.EditLaws.{other_field-is, same_field-refl}
+use Rattle.vol_layout.specs.laws.EditLaws.{other_field-is, same_field-refl}
 use Rattle.vol_layout.specs.declared.geometry.Geometry.{Geometry}
 use Rattle.vol_layout.specs.declared.kind.Kind.TheVariants as kinds
 use Rattle.vol_layout.specs.Journal.{SpellsJournal, edits_of, journal_key}

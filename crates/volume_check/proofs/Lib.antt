@@ -1,4 +1,5 @@
 mod CountLaws
+mod FirstLaws
 mod HoldLaws
 mod JournalReads
 mod PassedLaws
@@ -8,6 +9,5 @@ mod SpelledLaws
 mod StageLaws
 mod SumsOver
 mod TableLaws
-mod FirstLaws
 mod ToldLaws
 mod VisitLaws

@@ -10,10 +10,10 @@ use Rattle.vol_layout.specs.declared.kind.Kind.TheVariants as kinds
 use Rattle.vol_layout.specs.declared.field.Field.{Field}
 use Rattle.vol_layout.specs.declared.field.Edit.{Edit}
 use Rattle.vol_layout.specs.Edits.{IsEdit, edited, same_field}
-use Rattle.vol_layout.specs.EditLaws.{same_field-is}
+use Rattle.vol_layout.specs.laws.EditLaws.{same_field-is}
 use Rattle.vol_layout.specs.Fields.{HasField, IsInRange, table_of}
-use Rattle.image_view.specs.EditLaws.{edited-append}
-use Rattle.image_view.specs.FrameLaws.{HasTable-table_of}
+use Rattle.image_view.specs.laws.EditLaws.{edited-append}
+use Rattle.image_view.specs.laws.FrameLaws.{HasTable-table_of}
 use Rattle.image_view.specs.Images.{block_at}
 use Rattle.image_view.specs.Numbers.{field, journal, logical, standing}
 use Rattle.image_view.specs.Spelled.{IsJournal}

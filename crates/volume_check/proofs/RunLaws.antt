@@ -15,9 +15,9 @@ use Rattle.vol_layout.specs.declared.kind.Table.TheVariants as tables
 use Rattle.vol_layout.specs.Places.{place_of}
 use Rattle.vol_layout.specs.Ranges.{HasKind}
 use Rattle.vol_layout.specs.Regions.{regions, total}
-use Rattle.vol_layout.proofs.PlaceLaws.{place_of-inside}
+use Rattle.vol_layout.specs.laws.PlaceLaws.{place_of-inside}
 use Rattle.image_view.specs.Images.{Image, block_at}
-use Rattle.volume_faults.specs.AgreeLaws.{Agrees}
+use Rattle.volume_faults.specs.laws.AgreeLaws.{Agrees}
 use Rattle.volume_faults.specs.Sites.{IsChecked}
 use Rattle.volume_check.specs.Metadatas.{AreRuns, IsRead, Metadata, front_end, further_start, further_tables, image_of_runs}
 

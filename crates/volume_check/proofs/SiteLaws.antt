@@ -8,12 +8,12 @@ use Rattle.vol_layout.specs.declared.field.Field.TheVariants.{Pointer, Count}
 use Rattle.vol_layout.specs.Places.{place_of}
 use Rattle.vol_layout.specs.Ranges.{HasKind}
 use Rattle.vol_layout.specs.Regions.{regions, total}
-use Rattle.vol_layout.proofs.PlaceLaws.{place_of-inside, places_apart}
+use Rattle.vol_layout.specs.laws.PlaceLaws.{place_of-inside, places_apart}
 use Rattle.image_view.specs.Images.{Image}
-use Rattle.image_view.specs.FrameLaws.{HasTable-table_of}
+use Rattle.image_view.specs.laws.FrameLaws.{HasTable-table_of}
 use Rattle.volume_faults.specs.declared.fault.Fault.{Fault}
 use Rattle.volume_faults.specs.Faults.{IsOfStage}
-use Rattle.volume_faults.specs.ListLaws.{Adds-joined, Adds-right, Adds-same, Adds-wrong}
+use Rattle.volume_faults.specs.laws.ListLaws.{Adds-joined, Adds-right, Adds-same, Adds-wrong}
 use Rattle.volume_faults.specs.Order.{entry_of}
 use Rattle.volume_faults.specs.Sites.{Block, CountOf, HasSite, IsRight, LockKey, PointerOf, RecordEdit, RecordKey, Site, Size, Superblock, fault_at}
 use Rattle.volume_check.specs.Metadatas.{AddsOf, AddsStage, Metadata}

@@ -7,7 +7,7 @@ use Rattle.std.proofs.lemmas.List.Elements.{All-cons, All-head, All-nil, All-tai
 use Rattle.vol_base.specs.Bytes.{u64_at}
 use Rattle.vol_base.specs.declared.block.Key.{Key}
 use Rattle.vol_layout.specs.Journal.{SpellsJournal, edits_of, journal_key}
-use Rattle.vol_layout.specs.JournalLaws.{edits_of-spelled, journal_key-spelled}
+use Rattle.vol_layout.specs.laws.JournalLaws.{edits_of-spelled, journal_key-spelled}
 use Rattle.vol_layout.specs.Ranges.{IsGeometry}
 use Rattle.journal_block.specs.JournalRecord.{JournalRecord, entry_edits, entry_key}
 use Rattle.vol_layout.specs.declared.geometry.Geometry.{Geometry}

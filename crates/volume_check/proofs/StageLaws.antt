@@ -7,12 +7,12 @@ use Rattle.vol_layout.specs.declared.kind.Kind.{Kind}
 use Rattle.vol_layout.specs.Places.{place_of}
 use Rattle.vol_layout.specs.Ranges.{HasKind}
 use Rattle.vol_layout.specs.Regions.{total}
-use Rattle.vol_layout.proofs.PlaceLaws.{places_apart}
+use Rattle.vol_layout.specs.laws.PlaceLaws.{places_apart}
 use Rattle.image_view.specs.Images.{Image, block_at}
 use Rattle.volume_faults.specs.declared.fault.Fault.{Fault}
 use Rattle.volume_faults.specs.declared.fault.FaultKind.TheVariants as faults
 use Rattle.volume_faults.specs.Faults.{IsOfStage}
-use Rattle.volume_faults.specs.ListLaws.{Adds-joined, Adds-right, Adds-wrong}
+use Rattle.volume_faults.specs.laws.ListLaws.{Adds-joined, Adds-right, Adds-wrong}
 use Rattle.volume_faults.specs.Order.{ComesBefore}
 use Rattle.volume_faults.specs.Sites.{Block, CountOf, IsChecked, IsOfKind, LockKey, PointerOf, RecordEdit, RecordKey, Site, Size, Superblock, fault_at}
 use Rattle.volume_check.specs.Blocks.{IsBlockAt, IsBlockIn}

@@ -11,7 +11,7 @@ use Rattle.vol_layout.specs.Ranges.{IsGeometry, arena_slots, data_blocks, limit,
 use Rattle.image_view.specs.Balances.{share}
 use Rattle.image_view.specs.Mappings.{reference_fields}
 use Rattle.image_view.specs.Numbers.{logical}
-use Rattle.image_view.specs.UseLaws.{names_one, sum_by-reference_fields, uses-sum_by}
+use Rattle.image_view.specs.laws.UseLaws.{names_one, sum_by-reference_fields, uses-sum_by}
 use Rattle.volume_check.specs.Counts.{AreUses, Grew, named_by_file, named_by_slots}
 use Rattle.volume_check.specs.Metadatas.{Metadata}
 

@@ -5,7 +5,7 @@ use Rattle.std.proofs.lemmas.Bool.Decides.{nat_tests}
 use Rattle.vol_base.specs.Bytes.{IsBlock, u32_at}
 use Rattle.vol_base.specs.declared.block.Block.{Block}
 use Rattle.vol_base.specs.Packing.{IsPacked, IsPacking, Packing, packed_bytes, packing_of}
-use Rattle.vol_base.specs.PackingLaws.{IsPacked-packed_bytes, packing_of-packed_bytes}
+use Rattle.vol_base.specs.laws.PackingLaws.{IsPacked-packed_bytes, packing_of-packed_bytes}
 use Rattle.vol_layout.specs.declared.geometry.Geometry.{Geometry}
 use Rattle.vol_layout.specs.declared.field.Field.{Field}
 use Rattle.vol_layout.specs.declared.field.Field.TheVariants.{Head, Pointer, Slot, Count}

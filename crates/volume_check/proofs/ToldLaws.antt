@@ -3,21 +3,21 @@ use Rattle.std.proofs.Common.{◌≡◌, ◌<◌, ◌≤◌, ℕ, List, [], ◌�
 use Rattle.std.specs.Prelude.{IfOk, IfSome, IsNone, OnOk, slice_get}
 use Rattle.std.proofs.lemmas.Option.{IfSome_then, get_or_from_slice_get}
 use Rattle.vol_base.specs.Bytes.{zeros}
-use Rattle.vol_base.specs.BytesLaws.{length-zeros}
+use Rattle.vol_base.specs.laws.BytesLaws.{length-zeros}
 use Rattle.vol_layout.specs.declared.geometry.Geometry.{Geometry}
 use Rattle.vol_layout.specs.Regions.{regions, total}
 use Rattle.vol_layout.specs.Superblock.{SpellsGeometry}
 use Rattle.shared_disk.specs.State.{HasWholeImage, Stands, State, Told}
-use Rattle.image_view.specs.GeometryLaws.{geometry_of-spelled}
+use Rattle.image_view.specs.laws.GeometryLaws.{geometry_of-spelled}
 use Rattle.image_view.specs.Images.{Image, IsBlank, first_block, geometry_of}
 use Rattle.image_view.specs.Usages.{usage_in, usage_of}
 use Rattle.volume_faults.specs.declared.fault.Fault.{Fault}
 use Rattle.volume_faults.specs.declared.fault.FaultKind.TheVariants as faults
-use Rattle.volume_faults.specs.AgreeLaws.{Agrees, Agrees-sym, IsPassed_kept, table_faults_same, usage_same}
+use Rattle.volume_faults.specs.laws.AgreeLaws.{Agrees, Agrees-sym, IsPassed_kept, table_faults_same, usage_same}
 use Rattle.volume_faults.specs.Faults.{AreFaults, AreTableFaults}
-use Rattle.volume_faults.specs.ValidityLaws.{no_block_is_the_fault, no_superblock_is_the_fault, table_faults_are_faults, too_short_is_the_fault}
+use Rattle.volume_faults.specs.laws.ValidityLaws.{no_block_is_the_fault, no_superblock_is_the_fault, table_faults_are_faults, too_short_is_the_fault}
 use Rattle.volume_check.specs.Metadatas.{Metadata, Passes}
-use Rattle.volume_check.specs.Readable.{IsReadable, IsReadableVolume}
+use Rattle.volume_faults.specs.Readable.{IsReadable, IsReadableVolume}
 
 -- what follows of a value that a call gave
 pub if_ok_then : {T E : Type 0} (r : Result T E) {P Q : T → Type 0} → IfOk r P → ((x : T) → P x → Q x) → IfOk r Q

@@ -1,8 +1,6 @@
 pub mod Blocks
 pub mod Counts
 pub mod Metadatas
-pub mod Readable
-pub mod ReadableLaws
 pub mod Records
 pub mod SitesAt
 pub mod TableFields

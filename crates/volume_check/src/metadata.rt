@@ -6,7 +6,7 @@ ghost use Rattle.vol_layout.specs.Ranges.{HasKind, IsGeometry};
 ghost use Rattle.vol_layout.specs.Regions.{total};
 ghost use Rattle.image_view.specs.Images.{block_at};
 ghost use Rattle.image_view.specs.Numbers.{field};
-ghost use Rattle.volume_faults.specs.AgreeLaws.{Agrees};
+ghost use Rattle.volume_faults.specs.laws.AgreeLaws.{Agrees};
 ghost use Rattle.volume_faults.specs.Sites.{IsChecked};
 ghost use Rattle.volume_check.specs.declared.metadata.ReadNo.TheVariants as reads;
 

@@ -3,7 +3,7 @@ ghost use Rattle.std.specs.Prelude.{◌≡◌, ◌≢◌, ◌↔◌, ◌-◌, �
 ghost use Rattle.vol_base.specs.Faults.{Rose};
 ghost use Rattle.image_view.specs.Usages.{usage_in, usage_of};
 ghost use Rattle.volume_check.specs.Metadatas.{Passes};
-ghost use Rattle.volume_check.specs.Readable.{IsReadableVolume};
+ghost use Rattle.volume_faults.specs.Readable.{IsReadableVolume};
 ghost use Rattle.volume_check.specs.Visits.{IsVisiting, after_visit};
 
 use crate::metadata::{Metadata, ReadNo};

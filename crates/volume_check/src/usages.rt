@@ -4,7 +4,7 @@ ghost use Rattle.std.specs.List.{range_with_len};
 ghost use Rattle.vol_layout.specs.Ranges.{arena_slots, limit};
 ghost use Rattle.image_view.specs.Mappings.{reference_fields};
 ghost use Rattle.image_view.specs.Numbers.{logical};
-ghost use Rattle.image_view.specs.UseLaws.{names_one};
+ghost use Rattle.image_view.specs.laws.UseLaws.{names_one};
 ghost use Rattle.image_view.specs.Usages.{usage_in, used_numbers};
 ghost use Rattle.volume_check.specs.Counts.{AreStanding};
 ghost use Rattle.volume_check.specs.Metadatas.{Passes};

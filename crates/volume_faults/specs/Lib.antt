@@ -1,9 +1,7 @@
-pub mod Order
-pub mod Sites
-pub mod Lists
 pub mod Faults
-pub mod ListLaws
-pub mod AgreeLaws
-pub mod ValidityLaws
+pub mod Lists
+pub mod Order
+pub mod Readable
+pub mod Sites
 pub mod Texts
-pub mod UniqueLaws
+pub mod laws

@@ -7,7 +7,7 @@ use Rattle.vol_layout.specs.Blank.{blank_at}
 use Rattle.image_view.specs.Images.{IsBlank}
 use Rattle.shared_disk.specs.Calls.{after_write, told_after}
 use Rattle.shared_disk.specs.State.{HasWholeImage, Stands, State, Told}
-use Rattle.shared_disk.proofs.PrefixLaws.{EachImage-begun, EachImage-ends, EachImage-wrote}
+use Rattle.shared_disk.specs.laws.PrefixLaws.{EachImage-begun, EachImage-ends, EachImage-wrote}
 use Rattle.volume_opening.specs.Blanked.{Blanked}
 use Rattle.volume_opening.specs.Openings.{WasBlank, with_told}
 use Rattle.volume_opening.proofs.StateLaws.{stands_elsewhere, stands_there}

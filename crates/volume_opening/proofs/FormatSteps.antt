@@ -13,7 +13,7 @@ use Rattle.image_view.specs.Images.{Image, IsBlank}
 use Rattle.shared_disk.specs.Calls.{after_write, told_after}
 use Rattle.shared_disk.specs.Prefixes.{EachImage}
 use Rattle.shared_disk.specs.State.{HasWholeImage, State, Told}
-use Rattle.shared_disk.proofs.PrefixLaws.{EachImage-called, EachImage-joined, EachImage-weaker}
+use Rattle.shared_disk.specs.laws.PrefixLaws.{EachImage-called, EachImage-joined, EachImage-weaker}
 use Rattle.volume_opening.specs.Blanked.{Blanked}
 use Rattle.volume_opening.proofs.SpanLaws.{HasBlanks, formatted, further_start, head_end, spans}
 use Rattle.volume_opening.proofs.StateLaws.{stands_elsewhere, stands_there}

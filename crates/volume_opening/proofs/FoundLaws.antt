@@ -4,7 +4,7 @@ use Rattle.std.specs.Global.{Global}
 use Rattle.std.specs.Prelude.{IfOk, IfSome, Result, Ok, Err, Vec}
 use Rattle.std.proofs.lemmas.List.{get_or_past}
 use Rattle.vol_base.specs.Bytes.{zeros}
-use Rattle.vol_base.specs.BytesLaws.{length-zeros}
+use Rattle.vol_base.specs.laws.BytesLaws.{length-zeros}
 use Rattle.vol_layout.specs.declared.geometry.Geometry.{Geometry}
 use Rattle.vol_layout.specs.Regions.{total}
 use Rattle.vol_layout.specs.Superblock.{SpellsGeometry}
@@ -13,12 +13,12 @@ use Rattle.shared_disk.specs.State.{Told}
 use Rattle.volume_faults.specs.declared.fault.Fault.{Fault}
 use Rattle.volume_faults.specs.declared.fault.FaultKind.TheVariants as faults
 use Rattle.volume_faults.specs.Faults.{AreFaults, AreTableFaults}
-use Rattle.volume_faults.specs.ValidityLaws.{no_superblock_is_the_fault, table_faults_are_faults}
+use Rattle.volume_faults.specs.laws.ValidityLaws.{no_superblock_is_the_fault, table_faults_are_faults}
 use Rattle.volume_opening.specs.declared.block_zero.Found.{Found}
 use Rattle.volume_opening.specs.declared.block_zero.Found.TheVariants.{Blank, Volume, Other}
 use Rattle.volume_opening.specs.Found.{IsFound, spelled}
 use Rattle.volume_opening.specs.Misfits.{misfit_with, superblock_of}
-use Rattle.volume_opening.specs.MisfitLaws.{misfit_none-long, misfit_none-same, superblock_of-blank, superblock_of-none, superblock_of-spelled, zeros_spell_none}
+use Rattle.volume_opening.specs.laws.MisfitLaws.{misfit_none-long, misfit_none-same, superblock_of-blank, superblock_of-none, superblock_of-spelled, zeros_spell_none}
 
 -- no bytes are neither zeros nor a superblock
 no_bytes : IsFound [] Other

@@ -1,8 +1,8 @@
-pub mod FoundLaws
-pub mod StateLaws
 pub mod BlankLaws
-pub mod SpanLaws
 pub mod FormatSteps
+pub mod FoundLaws
 pub mod OpeningSteps
-pub mod VisitSteps
 mod SlotSteps
+pub mod SpanLaws
+pub mod StateLaws
+pub mod VisitSteps

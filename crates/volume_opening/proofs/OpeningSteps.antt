@@ -4,25 +4,25 @@ use Rattle.std.specs.Global.{Global}
 use Rattle.std.specs.Prelude.{Err, IfErr, IfOk, IfSome, IsOkAnd, Ok, OnOk, Result, Vec}
 use Rattle.std.proofs.lemmas.Option.{IfSome_then}
 use Rattle.vol_layout.specs.declared.geometry.Geometry.{Geometry}
-use Rattle.image_view.specs.FormatLaws.{formatted_is_valid}
+use Rattle.image_view.specs.laws.FormatLaws.{formatted_is_valid}
 use Rattle.image_view.specs.Formatted.{IsFormatted}
-use Rattle.image_view.specs.GeometryLaws.{geometry_of-spelled}
+use Rattle.image_view.specs.laws.GeometryLaws.{geometry_of-spelled}
 use Rattle.image_view.specs.Images.{Image, IsBlank, first_block, geometry_of}
 use Rattle.image_view.specs.Valid.{IsValid, IsVolume}
 use Rattle.shared_disk.specs.declared.answers.DiskNo.{DiskNo}
 use Rattle.shared_disk.specs.declared.answers.DiskNo.TheVariants as refusals
 use Rattle.shared_disk.specs.Prefixes.{EachImage}
 use Rattle.shared_disk.specs.State.{State, Told}
-use Rattle.shared_disk.proofs.PrefixLaws.{EachImage-begun, EachImage-weaker}
+use Rattle.shared_disk.specs.laws.PrefixLaws.{EachImage-begun, EachImage-weaker}
 use Rattle.volume_faults.specs.declared.fault.Fault.{Fault}
 use Rattle.volume_faults.specs.Faults.{AreFaults}
-use Rattle.volume_faults.specs.ValidityLaws.{faultless_is_valid}
+use Rattle.volume_faults.specs.laws.ValidityLaws.{faultless_is_valid}
 use Rattle.volume_opening.specs.declared.block_zero.Found.{Found}
 use Rattle.volume_opening.specs.declared.block_zero.Found.TheVariants.{Blank, Volume, Other}
 use Rattle.volume_opening.specs.declared.open_no.OpenNo.{OpenNo}
 use Rattle.volume_opening.specs.declared.open_no.OpenNo.TheVariants as answers
 use Rattle.volume_opening.specs.Found.{IsFound, spelled}
-use Rattle.volume_opening.specs.MisfitLaws.{misfit_none-same, zeros_spell_none}
+use Rattle.volume_opening.specs.laws.MisfitLaws.{misfit_none-same, zeros_spell_none}
 use Rattle.volume_opening.specs.Misfits.{misfit, misfit_with}
 use Rattle.volume_opening.specs.Openings.{IsOnTheWay, IsOpened, IsStillBlank, WasBlank}
 use Rattle.volume_opening.proofs.FoundLaws.{superblock_of-found}

@@ -10,8 +10,8 @@ use Rattle.vol_layout.specs.Blank.{blank_bytes}
 use Rattle.vol_layout.specs.Places.{place_of}
 use Rattle.slot_lock_blocks.specs.declared.slot.Slot.{Slot}
 use Rattle.slot_lock_blocks.specs.declared.slot.Slot.TheVariants as slots
-use Rattle.slot_lock_blocks.specs.FreeLaws.{free_slot}
-use Rattle.slot_lock_blocks.specs.SlotLaws.{slot_numbers}
+use Rattle.slot_lock_blocks.specs.laws.FreeLaws.{free_slot}
+use Rattle.slot_lock_blocks.specs.laws.SlotLaws.{slot_numbers}
 use Rattle.slot_lock_blocks.specs.Slots.{SpellsSlot}
 use Rattle.image_view.specs.Formatted.{IsFormatted}
 use Rattle.image_view.specs.HostKeys.{slot_key_at}

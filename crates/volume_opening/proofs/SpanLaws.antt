@@ -15,7 +15,7 @@ use Rattle.vol_layout.specs.Blank.{blank_at, blank_bytes}
 use Rattle.vol_layout.specs.Places.{place_of}
 use Rattle.vol_layout.specs.Ranges.{HasKind, HasResource, HasTable, IsGeometry}
 use Rattle.vol_layout.specs.Regions.{regions, total}
-use Rattle.vol_layout.proofs.PlaceLaws.{kind_at-place, place_of-inside}
+use Rattle.vol_layout.specs.laws.PlaceLaws.{kind_at-place, place_of-inside}
 use Rattle.image_view.specs.Formatted.{IsFormatted}
 use Rattle.image_view.specs.Images.{Image, block_at}
 use Rattle.shared_disk.specs.State.{Told}

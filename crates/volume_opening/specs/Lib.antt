@@ -1,8 +1,7 @@
+pub mod Blanked
+pub mod Found
 pub mod Misfits
 pub mod Openings
 pub mod Refusals
-pub mod Found
-pub mod MisfitLaws
-pub mod OpeningLaws
-pub mod Blanked
 pub mod Slots
+pub mod laws

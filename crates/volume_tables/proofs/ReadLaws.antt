@@ -4,7 +4,7 @@ use Rattle.std.specs.Prelude.{IsNone, IsSome, slice_get}
 use Rattle.std.proofs.lemmas.Option.{get_or_from_slice_get}
 use Rattle.vol_base.specs.Bytes.{u32_at}
 use Rattle.vol_base.specs.Packing.{IsPacked, Packing, packed_bytes, packing_of}
-use Rattle.vol_base.specs.PackingLaws.{IsPacked-packed_bytes, packing_of-packed_bytes}
+use Rattle.vol_base.specs.laws.PackingLaws.{IsPacked-packed_bytes, packing_of-packed_bytes}
 use Rattle.vol_layout.specs.declared.geometry.Geometry.{Geometry}
 use Rattle.vol_layout.specs.declared.kind.Kind.{Kind}
 use Rattle.vol_layout.specs.declared.kind.Table.{Table}
@@ -14,7 +14,7 @@ use Rattle.vol_layout.specs.Places.{place_of}
 use Rattle.image_view.specs.Images.{Image, block_at}
 use Rattle.image_view.specs.Spelled.{IsTable}
 use Rattle.volume_faults.specs.Sites.{HasNumbers}
-use Rattle.volume_tables.specs.NumberLaws.{number_spelled}
+use Rattle.volume_tables.specs.laws.NumberLaws.{number_spelled}
 use Rattle.volume_tables.specs.Tables.{IsPackingOf}
 
 -- the block that stands at the place of a kind

@@ -1,4 +1,3 @@
-pub mod Tables
 pub mod Free
-pub mod NumberLaws
-pub mod WriteLaws
+pub mod Tables
+pub mod laws

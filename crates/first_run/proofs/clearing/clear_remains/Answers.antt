@@ -2,9 +2,9 @@ use Rattle.std.proofs.Common.{[], sym, subst}
 use Rattle.shared_disk.specs.State.{State}
 use Rattle.first_run.specs.Halts.{IsStopped}
 use Rattle.first_run.specs.Owing.{edits_owed}
-use Rattle.first_run.specs.SeatLaws.{served-kept}
+use Rattle.first_run.proofs.SeatLaws.{served-kept}
 use Rattle.first_run.specs.Seats.{OnImages}
-use Rattle.first_run.specs.TellsLaws.{tells-kept}
+use Rattle.first_run.proofs.TellsLaws.{tells-kept}
 use Rattle.first_run.specs.declared.halt.Halt.{Halt}
 use Rattle.first_run.specs.declared.seat.Owed.TheVariants.{Nothing}
 use Rattle.first_run.proofs.HaltExits.{halted-exit, refused-exit}

@@ -1,8 +1,8 @@
 use Rattle.std.proofs.Common.{sym, subst, arith}
 use Rattle.vol_layout.specs.declared.field.Field.TheVariants.{Pointer}
 use Rattle.vol_layout.specs.Fields.{IsPointer}
-use Rattle.first_run.specs.PointerReads.{names-read}
-use Rattle.first_run.specs.SameFiles.{named-below}
+use Rattle.first_run.proofs.PointerReads.{names-read}
+use Rattle.first_run.proofs.SameFiles.{named-below}
 use Rattle.first_run.proofs.clearing.first_named.Goals as goal
 
 pub read_pointer-requires : goal.read_pointer-requires

@@ -3,8 +3,8 @@ use Rattle.std.specs.Prelude.{IfSome}
 use Rattle.shared_disk.specs.State.{State}
 use Rattle.volume_tables.specs.Tables.{IsTableOf}
 use Rattle.first_run.specs.Halts.{TellsVolume}
-use Rattle.first_run.specs.PointerBlocks.{limit-small, same-block}
-use Rattle.first_run.specs.RefusedLaws.{refused-since}
+use Rattle.first_run.proofs.PointerBlocks.{limit-small, same-block}
+use Rattle.first_run.proofs.RefusedLaws.{refused-since}
 use Rattle.first_run.proofs.ScannedTables.{IsScanned, first_scanned, none_scanned}
 use Rattle.first_run.proofs.StoredLaws.{refused_read}
 use Rattle.first_run.proofs.clearing.first_remain.Goals as goal

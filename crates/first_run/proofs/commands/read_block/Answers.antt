@@ -1,4 +1,4 @@
-use Rattle.first_run.specs.PointerReads.{hole-read, names-read}
+use Rattle.first_run.proofs.PointerReads.{hole-read, names-read}
 use Rattle.first_run.proofs.ReadTold.{read_hole, read_named}
 use Rattle.first_run.proofs.commands.read_block.Goals as goal
 

@@ -5,7 +5,7 @@ use Rattle.first_run.specs.declared.halt.Halt.{Halt}
 use Rattle.first_run.specs.Halts.{IsHalted}
 use Rattle.first_run.specs.Owing.{edits_owed}
 use Rattle.first_run.specs.Seats.{OnImages}
-use Rattle.first_run.specs.ToldFacts.{told-since}
+use Rattle.first_run.proofs.ToldFacts.{told-since}
 use Rattle.first_run.proofs.HaltExits.{refused-exit}
 use Rattle.first_run.proofs.LengthTold.{head_absent, head_there}
 use Rattle.first_run.proofs.RefusedTold.{absent_told, too_long_told}

@@ -1,13 +1,13 @@
 use Rattle.std.proofs.Common.{◌∙◌, ap, arith}
 use Rattle.shared_disk.specs.State.{State}
-use Rattle.first_run.specs.KeyLaws.{keys-same}
+use Rattle.first_run.specs.laws.KeyLaws.{keys-same}
 use Rattle.vol_base.specs.declared.command.Command.TheVariants.{Join}
 use Rattle.std.proofs.lemmas.Result.{IfOk-weaker}
-use Rattle.first_run.specs.JoinLaws.{cut-between, cut-join, ends-paid, joined-between, joined-step}
-use Rattle.first_run.specs.KeylessLaws.{between-same, ends-same, keyless-step}
-use Rattle.first_run.specs.RegisterLaws.{keys-joined, served-registered, volume-registered}
-use Rattle.first_run.specs.SeatLaws.{length-kept}
-use Rattle.first_run.specs.TellsLaws.{tells-kept}
+use Rattle.first_run.proofs.JoinLaws.{cut-between, cut-join, ends-paid, joined-between, joined-step}
+use Rattle.first_run.proofs.KeylessLaws.{between-same, ends-same, keyless-step}
+use Rattle.first_run.proofs.RegisterLaws.{keys-joined, served-registered, volume-registered}
+use Rattle.first_run.proofs.SeatLaws.{length-kept}
+use Rattle.first_run.proofs.TellsLaws.{tells-kept}
 use Rattle.first_run.specs.declared.seat.Seat.TheVariants.{Out}
 use Rattle.first_run.proofs.Results.{both-ok, on-err}
 use Rattle.first_run.proofs.joining.join.Goals as goal

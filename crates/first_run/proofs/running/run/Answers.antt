@@ -1,8 +1,8 @@
 use Rattle.std.proofs.Common.{◌∙◌, refl, sym, subst, arith}
-use Rattle.first_run.specs.RunLaws.{run-begun}
-use Rattle.first_run.specs.RunSteps.{between-begun, leads-next, run-added, stopped-next}
+use Rattle.first_run.proofs.RunLaws.{run-begun}
+use Rattle.first_run.proofs.RunSteps.{between-begun, leads-next, run-added, stopped-next}
 use Rattle.first_run.specs.Seats.{IsBetween, run_state}
-use Rattle.first_run.specs.UncutLaws.{uncut-valid}
+use Rattle.first_run.proofs.UncutLaws.{uncut-valid}
 use Rattle.first_run.specs.declared.seat.Owed.TheVariants.{Nothing}
 use Rattle.first_run.specs.declared.seat.Seat.{Seat}
 use Rattle.first_run.specs.declared.seat.Seat.TheVariants.{Out}

@@ -1,5 +1,5 @@
 use Rattle.std.proofs.Common.{◌≡◌, ◌≤◌}
-use Rattle.first_run.specs.RunLaws.{AreRun}
+use Rattle.first_run.proofs.RunLaws.{AreRun}
 use Rattle.first_run.specs.Seats.{IsBetween, KeepsKeys, run_state}
 use Rattle.first_run.specs.declared.seat.Owed.TheVariants as owing
 use Rattle.first_run.specs.declared.seat.Seat.TheVariants as seats

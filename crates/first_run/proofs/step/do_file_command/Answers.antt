@@ -1,10 +1,10 @@
 use Rattle.std.proofs.Common.{◌∙◌, sym}
 use Rattle.vol_base.specs.PlainCalls.{plain_call_of}
 use Rattle.std.proofs.lemmas.Result.{IfOk-weaker}
-use Rattle.first_run.specs.BuiltLaws.{built-call, built-plain, some-none}
-use Rattle.first_run.specs.CallSteps.{answered-between, answered-step, ends-halted, halted-between, halted-step, served-joined}
-use Rattle.first_run.specs.KeyLaws.{keys-same}
-use Rattle.first_run.specs.SeatLaws.{keys-kept, length-kept}
+use Rattle.first_run.proofs.BuiltLaws.{built-call, built-plain, some-none}
+use Rattle.first_run.proofs.CallSteps.{answered-between, answered-step, ends-halted, halted-between, halted-step, served-joined}
+use Rattle.first_run.specs.laws.KeyLaws.{keys-same}
+use Rattle.first_run.proofs.SeatLaws.{keys-kept, length-kept}
 use Rattle.first_run.proofs.Results.{both-ok, on-err}
 use Rattle.first_run.proofs.step.do_file_command.Goals as goal
 

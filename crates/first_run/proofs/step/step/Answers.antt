@@ -1,6 +1,6 @@
 use Rattle.std.proofs.Common.{refl, sym, subst, arith}
 use Rattle.first_run.specs.Seats.{IsBetween, run_state}
-use Rattle.first_run.specs.StaySteps.{down-step, up-step}
+use Rattle.first_run.proofs.StaySteps.{down-step, up-step}
 use Rattle.first_run.specs.Steps.{IsJoined}
 use Rattle.first_run.specs.declared.seat.Seat.{Seat}
 use Rattle.first_run.proofs.step.step.Goals as goal

@@ -1,7 +1,7 @@
 use Rattle.std.proofs.Common.{◌≡◌, length, arith}
 use Rattle.std.proofs.lemmas.Bool.Decides.{nat_tests}
 use Rattle.std.proofs.lemmas.List.{nil_from_length}
-use Rattle.volume_check.specs.ReadableLaws.{IsReadable-valid}
+use Rattle.volume_faults.specs.laws.ReadableLaws.{IsReadable-valid}
 use Rattle.first_run.proofs.tests.expect_valid.Goals as goal
 
 pub survey-requires : goal.survey-requires

@@ -1,7 +1,7 @@
 use Rattle.std.proofs.Common.{◌<◌, ℕ, Option, subst}
 use Rattle.std.specs.Prelude.{IfSome}
 use Rattle.vol_layout.specs.Ranges.{data_blocks}
-use Rattle.first_run.specs.CountRanges.{lowered_in_range, one_in_range}
+use Rattle.first_run.proofs.CountRanges.{lowered_in_range, one_in_range}
 use Rattle.first_run.proofs.OwedParts.{owes-one, owes-two}
 use Rattle.first_run.proofs.writing.counts_after.Goals as goal
 

@@ -1,7 +1,7 @@
 use Rattle.vol_layout.specs.Fields.{HasField}
 use Rattle.vol_layout.specs.declared.field.Field.TheVariants.{Count}
-use Rattle.first_run.specs.InPlaceLaws.{named-unmarked}
-use Rattle.first_run.specs.SameFiles.{named-below}
+use Rattle.first_run.proofs.InPlaceLaws.{named-unmarked}
+use Rattle.first_run.proofs.SameFiles.{named-below}
 use Rattle.first_run.proofs.InPlaceTold.{in_place_done, in_place_kept, unmarked_read}
 use Rattle.first_run.proofs.writing.write_block.Goals as goal
 

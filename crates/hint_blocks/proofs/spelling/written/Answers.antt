@@ -1,7 +1,7 @@
 use Rattle.std.proofs.Common.{ℕ, List, [], ◌∷◌, ◌++◌, ap, refl, replicate, ◌∙◌}
 use Rattle.std.specs.List.{flat_map}
 use Rattle.vol_base.specs.Bytes.{bytes_of}
-use Rattle.vol_base.specs.BytesLaws.{length-bytes_of}
+use Rattle.vol_base.specs.laws.BytesLaws.{length-bytes_of}
 use Rattle.hint_blocks.specs.Entries.{spelled}
 use Rattle.hint_blocks.proofs.Written.{three_numbers}
 use Rattle.hint_blocks.proofs.spelling.written.Goals as goal

@@ -1,6 +1,6 @@
 use Rattle.std.proofs.lemmas.Option.{IfSome_then}
 use Rattle.image_view.specs.Images.{geometry_of}
-use Rattle.volume_check.specs.ReadableLaws.{IsReadable-valid}
+use Rattle.volume_faults.specs.laws.ReadableLaws.{IsReadable-valid}
 use Rattle.jobs.proofs.checking.decide_valid.Goals as goal
 
 pub survey-requires : goal.survey-requires

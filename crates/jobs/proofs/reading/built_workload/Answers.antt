@@ -1,4 +1,4 @@
-use Rattle.histories.specs.PhaseLaws.{phased-text}
+use Rattle.histories.specs.laws.PhaseLaws.{phased-text}
 use Rattle.jobs.proofs.ReadingLaws.{few_lines, workload_built}
 use Rattle.jobs.proofs.reading.built_workload.Goals as goal
 

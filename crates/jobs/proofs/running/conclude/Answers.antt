@@ -1,7 +1,7 @@
 use Rattle.std.proofs.Common.{ap, refl, ◌∙◌}
 use Rattle.std.specs.Prelude.{Err}
 use Rattle.std.proofs.lemmas.Option.{IfSome_then}
-use Rattle.volume_check.specs.ReadableLaws.{IsReadableVolume-readable}
+use Rattle.volume_faults.specs.laws.ReadableLaws.{IsReadableVolume-readable}
 use Rattle.jobs.proofs.RunSteps.{has_keys, reported, reported_without}
 use Rattle.jobs.proofs.running.conclude.Goals as goal
 

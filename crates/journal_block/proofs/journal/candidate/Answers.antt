@@ -1,6 +1,6 @@
 use Rattle.std.proofs.Common.{refl, sym, ap, ◌∙◌, Some, arith, []}
 use Rattle.std.proofs.lemmas.List.Elements.{All-nil}
-use Rattle.vol_layout.specs.JournalLaws.{journal_count-spelled}
+use Rattle.vol_layout.specs.laws.JournalLaws.{journal_count-spelled}
 use Rattle.journal_block.proofs.JournalWalk.{All-more, all_edits, can_be_added, first_read, next_edit, no_edits, one_more}
 use Rattle.journal_block.proofs.journal.candidate.Goals as goal
 

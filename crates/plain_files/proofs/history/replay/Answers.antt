@@ -2,8 +2,8 @@ use Rattle.std.proofs.Common.{◌≡◌, ◌+◌, ◌∙◌, None, Some, refl, a
 use Rattle.std.proofs.lemmas.List.{drop_more}
 use Rattle.vol_base.specs.declared.plain.PlainReply.TheVariants.{Done}
 use Rattle.plain_files.specs.History.{call_at, state_after}
-use Rattle.plain_files.proofs.CallLaws.{length-after}
-use Rattle.plain_files.proofs.HistoryLaws.{IsLegal-placed, state_after-placed}
+use Rattle.plain_files.specs.laws.CallLaws.{length-after}
+use Rattle.plain_files.specs.laws.HistoryLaws.{IsLegal-placed, state_after-placed}
 use Rattle.plain_files.proofs.history.replay.Goals as goal
 
 pub loop-entry-preserved : goal.loop-entry-preserved

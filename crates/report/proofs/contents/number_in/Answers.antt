@@ -3,7 +3,7 @@ use Rattle.std.proofs.lemmas.Bool.Decides.{not_from_Decides}
 use Rattle.vol_base.specs.declared.block.Block.{Block}
 use Rattle.vol_base.specs.Bytes.{u64_at}
 use Rattle.vol_base.specs.NumberBlock.{number_block}
-use Rattle.report.specs.ContentLaws.{number_in-other, number_in-same, u64_at-number_bytes}
+use Rattle.report.proofs.ContentLaws.{number_in-other, number_in-same, u64_at-number_bytes}
 use Rattle.report.proofs.contents.number_in.Goals as goal
 
 pub returns-then-same-clause-value : goal.returns-then-same-clause-value

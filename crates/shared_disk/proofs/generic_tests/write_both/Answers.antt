@@ -3,7 +3,7 @@ use Rattle.std.specs.Prelude.{OnOk, OnErr, Result}
 use Rattle.shared_disk.specs.Calls.{after_write}
 use Rattle.shared_disk.specs.Prefixes.{EachImage}
 use Rattle.shared_disk.specs.State.{State, HasWholeImage}
-use Rattle.shared_disk.proofs.PrefixLaws.{WritesAtMost-write, EachImage-begun, EachImage-called}
+use Rattle.shared_disk.specs.laws.PrefixLaws.{WritesAtMost-write, EachImage-begun, EachImage-called}
 use Rattle.shared_disk.proofs.generic_tests.write_both.Goals as goal
 
 -- a write, whatever it answers, leaves each image as long as the device

@@ -1,8 +1,8 @@
 use Rattle.std.proofs.Common.{ℕ, ◌*◌, ◌∙◌, ◌++◌, List, length, ap, arith, slice_index, add-one}
 use Rattle.vol_base.specs.declared.block.Block.{Block}
 use Rattle.vol_base.specs.Bytes.{bytes_of}
-use Rattle.vol_base.specs.BytesLaws.{length-bytes_of}
-use Rattle.vol_base.specs.NumberBlockLaws.{filled_up, length-repeated, slice_index-number_bytes}
+use Rattle.vol_base.specs.laws.BytesLaws.{length-bytes_of}
+use Rattle.vol_base.specs.laws.NumberBlockLaws.{filled_up, length-repeated, slice_index-number_bytes}
 use Rattle.vol_base.proofs.filled.number_block.Goals as goal
 
 pub push_u64-requires : goal.push_u64-requires

@@ -1,5 +1,5 @@
 use Rattle.std.proofs.Common.{arith}
-use Rattle.vol_base.specs.PackingLaws.{entry_fits}
+use Rattle.vol_base.specs.laws.PackingLaws.{entry_fits}
 use Rattle.vol_base.proofs.packed.place.Goals as goal
 
 pub overflow_mul-result : goal.overflow_mul-result

@@ -1,7 +1,7 @@
 use Rattle.std.proofs.Common.{◌≡◌, ◌+◌, ◌*◌, ◌++◌, ◌∙◌, ℕ, List, length, take, ap, arith, length-append, length-take}
 use Rattle.std.specs.List.{flat_map}
 use Rattle.vol_base.specs.Bytes.{bytes_of}
-use Rattle.vol_base.specs.RowLaws.{length-row}
+use Rattle.vol_base.specs.laws.RowLaws.{length-row}
 use Rattle.vol_layout.proofs.superblock.push_numbers.Goals as goal
 
 -- a draft with a row behind it is longer by four bytes a number

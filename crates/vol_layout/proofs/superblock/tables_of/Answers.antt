@@ -1,6 +1,6 @@
 use Rattle.std.proofs.Common.{◌≡◌, ◌≢◌, ◌∙◌, ℕ, List, take, ap, sym, arith}
 use Rattle.vol_base.specs.Bytes.{u32_at}
-use Rattle.vol_layout.proofs.SuperblockLaws.{single_magic, many_magic, superblock-tables}
+use Rattle.vol_layout.specs.laws.SuperblockLaws.{single_magic, many_magic, superblock-tables}
 use Rattle.vol_layout.proofs.superblock.tables_of.Goals as goal
 
 pub returns-then-is_single : goal.returns-then-is_single

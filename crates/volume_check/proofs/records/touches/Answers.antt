@@ -5,7 +5,7 @@ use Rattle.std.proofs.lemmas.Option.{same_Some, slice_get_within}
 use Rattle.vol_layout.specs.declared.field.Field.{Field}
 use Rattle.vol_layout.specs.declared.field.Edit.{Edit}
 use Rattle.vol_layout.specs.Edits.{touches}
-use Rattle.vol_layout.specs.EditLaws.{touches-at}
+use Rattle.vol_layout.specs.laws.EditLaws.{touches-at}
 use Rattle.volume_check.proofs.JournalReads.{touches_none}
 use Rattle.volume_check.proofs.records.touches.Goals as goal
 

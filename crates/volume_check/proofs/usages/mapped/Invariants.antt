@@ -3,7 +3,7 @@ use Rattle.std.specs.List.{range_with_len}
 use Rattle.vol_layout.specs.declared.field.Field.TheVariants.{Pointer}
 use Rattle.vol_layout.specs.Ranges.{limit}
 use Rattle.image_view.specs.Numbers.{logical}
-use Rattle.image_view.specs.UseLaws.{names_one}
+use Rattle.image_view.specs.laws.UseLaws.{names_one}
 use Rattle.volume_check.proofs.usages.mapped.Given as goal
 
 abbrev pub invariant-loop-file : goal.invariant-loop-file

@@ -2,7 +2,7 @@ use Rattle.std.proofs.Common.{◌≡◌, ap, ◌∙◌, arith}
 use Rattle.vol_layout.specs.declared.field.Field.TheVariants.{Pointer}
 use Rattle.vol_layout.specs.Ranges.{limit}
 use Rattle.image_view.specs.Numbers.{logical}
-use Rattle.image_view.specs.UseLaws.{names_one}
+use Rattle.image_view.specs.laws.UseLaws.{names_one}
 use Rattle.volume_check.proofs.SumsOver.{summed_more}
 use Rattle.volume_check.proofs.usages.mapped_by_file.Goals as goal
 

@@ -2,7 +2,7 @@ use Rattle.std.proofs.Common.{◌≡◌, ◌≤◌, sum_by}
 use Rattle.std.specs.List.{range_with_len}
 use Rattle.vol_layout.specs.declared.field.Field.TheVariants.{Slot}
 use Rattle.image_view.specs.Numbers.{logical}
-use Rattle.image_view.specs.UseLaws.{names_one}
+use Rattle.image_view.specs.laws.UseLaws.{names_one}
 use Rattle.volume_check.proofs.usages.mapped_by_slots.Given as goal
 
 abbrev pub invariant-loop-slot : goal.invariant-loop-slot

@@ -1,5 +1,5 @@
 use Rattle.std.proofs.Common.{refl}
-use Rattle.image_view.specs.UseLaws.{length-mappings}
+use Rattle.image_view.specs.laws.UseLaws.{length-mappings}
 use Rattle.volume_check.proofs.usages.usage.Goals as goal
 
 pub returns : goal.returns

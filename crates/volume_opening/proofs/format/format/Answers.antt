@@ -1,5 +1,5 @@
 use Rattle.std.proofs.Common.{arith, ◌*◌, refl}
-use Rattle.shared_disk.proofs.PrefixLaws.{EachImage-ends, EachImage-joined}
+use Rattle.shared_disk.specs.laws.PrefixLaws.{EachImage-ends, EachImage-joined}
 use Rattle.image_view.specs.Images.{IsBlank}
 use Rattle.volume_opening.proofs.FormatSteps.{both_blanked, format_images, formats, on_err, unformatted}
 use Rattle.volume_opening.proofs.SpanLaws.{spans}

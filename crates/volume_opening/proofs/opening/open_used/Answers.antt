@@ -1,6 +1,6 @@
 use Rattle.std.proofs.Common.{◌∙◌}
 use Rattle.volume_opening.specs.Found.{spelled}
-use Rattle.volume_opening.specs.MisfitLaws.{misfit_none-long}
+use Rattle.volume_opening.specs.laws.MisfitLaws.{misfit_none-long}
 use Rattle.volume_opening.proofs.OpeningSteps.{opened_judged, refused_judged}
 use Rattle.volume_opening.proofs.opening.open_used.Goals as goal
 

@@ -4,7 +4,7 @@ use Rattle.std.specs.List.{filter_map}
 use Rattle.std.proofs.lemmas.List.Elements.{All-push, filter_map-append}
 use Rattle.vol_base.specs.Packing.{Packing}
 use Rattle.hint_blocks.specs.HintLists.{HintList}
-use Rattle.hint_blocks.specs.HintListLaws.{IsSpelling, length-filter_map}
+use Rattle.hint_blocks.specs.laws.HintListLaws.{IsSpelling, length-filter_map}
 use Rattle.hint_blocks.proofs.hints.Hints.append.Given.{Over}
 use Rattle.hint_blocks.proofs.hints.Hints.append.Goals as goal
 use Rattle.hint_blocks.proofs.hints.Hints.append.Goals.{After-append_bytes}

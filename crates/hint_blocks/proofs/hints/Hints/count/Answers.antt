@@ -1,7 +1,7 @@
 use Rattle.std.proofs.Common.{◌∙◌, ap, length, subst, sym}
 use Rattle.std.specs.Prelude.{All}
 use Rattle.hint_blocks.specs.HintLists.{HintList}
-use Rattle.hint_blocks.specs.HintListLaws.{All-filter_map, length-filter_map}
+use Rattle.hint_blocks.specs.laws.HintListLaws.{All-filter_map, length-filter_map}
 use Rattle.hint_blocks.proofs.hints.Hints.count.Goals as goal
 
 pub returns-clause-value : goal.returns-clause-value

@@ -2,7 +2,7 @@ use Rattle.std.proofs.Common.{◌≡◌, ◌∙◌, ℕ, List, true, false, ap, 
 use Rattle.std.specs.Str.{bytes_eq}
 use Rattle.std.proofs.lemmas.List.{length-take}
 use Rattle.hint_blocks.specs.HintLists.{HintList}
-use Rattle.hint_blocks.specs.HintListLaws.{length-without, without-other, without-same}
+use Rattle.hint_blocks.specs.laws.HintListLaws.{length-without, without-other, without-same}
 use Rattle.hint_blocks.proofs.hints.Hints.drop_digest.Goals.{else-not-are_same, then-not-are_same}
 use Rattle.hint_blocks.proofs.hints.Hints.drop_digest.Goals as goal
 

@@ -1,7 +1,7 @@
 use Rattle.std.proofs.Common.{◌≤◌, ◌∙◌, ◌∷◌, [], ap, arith, drop, length, length-take-le, refl, take}
 use Rattle.std.proofs.lemmas.List.{drop-append-le}
 use Rattle.std.proofs.lemmas.Option.{slice_get_within}
-use Rattle.hint_blocks.specs.HintListLaws.{take_more_get}
+use Rattle.hint_blocks.specs.laws.HintListLaws.{take_more_get}
 use Rattle.hint_blocks.proofs.hints.Hints.drop_first.Goals as goal
 
 pub loop-k-preserved : goal.loop-k-preserved

@@ -1,7 +1,7 @@
 use Rattle.std.proofs.Common.{◌∙◌, ap, arith, length, lit<, sym}
 use Rattle.std.specs.Prelude.{slice_get}
 use Rattle.hint_blocks.specs.HintLists.{HintList}
-use Rattle.hint_blocks.specs.HintListLaws.{length-filter_map, slice_get-filter_map, spelled_is_read}
+use Rattle.hint_blocks.specs.laws.HintListLaws.{length-filter_map, slice_get-filter_map, spelled_is_read}
 use Rattle.hint_blocks.proofs.hints.Hints.get.Goals as goal
 
 pub get-requires : goal.get-requires

@@ -3,7 +3,7 @@ use Rattle.std.specs.List.{filter_map}
 use Rattle.vol_base.specs.Packing.{IsPacked, Packing, packed_bytes}
 use Rattle.vol_layout.specs.declared.geometry.Geometry.{Geometry}
 use Rattle.hint_blocks.specs.HintLists.{HintList, hints_in}
-use Rattle.hint_blocks.specs.HintListLaws.{hints_in-packed, map-filter_map, packing_parts}
+use Rattle.hint_blocks.specs.laws.HintListLaws.{hints_in-packed, map-filter_map, packing_parts}
 use Rattle.hint_blocks.proofs.hints.Hints.into_block.Goals as goal
 
 pub returns-clause-bytes : goal.returns-clause-bytes

@@ -5,7 +5,7 @@ use Rattle.std.proofs.lemmas.Bool.{false≢true}
 use Rattle.std.proofs.lemmas.List.{length-take, take_all}
 use Rattle.vol_base.specs.Packing.{IsPacked, Packing}
 use Rattle.hint_blocks.specs.HintLists.{HintList}
-use Rattle.hint_blocks.specs.HintListLaws.{All-filter_map, filter_map-more, hints_in-other, hints_in-packed, length-filter_map-le}
+use Rattle.hint_blocks.specs.laws.HintListLaws.{All-filter_map, filter_map-more, hints_in-other, hints_in-packed, length-filter_map-le}
 use Rattle.hint_blocks.proofs.hints.Hints.of.Goals as goal
 
 pub returns-in_default-clause-entries : goal.returns-in_default-clause-entries

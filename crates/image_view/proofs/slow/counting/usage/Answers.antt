@@ -1,6 +1,6 @@
 use Rattle.std.proofs.Common.{refl}
 use Rattle.image_view.specs.Blocks.{image_of}
-use Rattle.image_view.specs.UseLaws.{length-mappings}
+use Rattle.image_view.specs.laws.UseLaws.{length-mappings}
 use Rattle.image_view.proofs.slow.counting.usage.Goals as goal
 
 pub returns : goal.returns

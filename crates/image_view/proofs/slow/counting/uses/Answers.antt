@@ -1,6 +1,6 @@
 use Rattle.std.proofs.Common.{sym, ◌∙◌}
 use Rattle.image_view.specs.Blocks.{image_of}
-use Rattle.image_view.specs.UseLaws.{uses-sum_by}
+use Rattle.image_view.specs.laws.UseLaws.{uses-sum_by}
 use Rattle.image_view.proofs.slow.counting.uses.Goals as goal
 
 pub returns : goal.returns

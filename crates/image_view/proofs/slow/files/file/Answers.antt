@@ -3,7 +3,7 @@ use Rattle.std.specs.Prelude.{is_ok, not}
 use Rattle.std.proofs.lemmas.List.FromFn.{map-range_with_len_more}
 use Rattle.image_view.specs.Blocks.{image_of}
 use Rattle.image_view.specs.Files.{content}
-use Rattle.image_view.specs.FileLaws.{shown, volume_file_none, volume_file_some}
+use Rattle.image_view.specs.laws.FileLaws.{shown, volume_file_none, volume_file_some}
 use Rattle.image_view.proofs.slow.files.file.Goals as goal
 
 pub returns-then-head-eq0-clause-file : goal.returns-then-head-eq0-clause-file

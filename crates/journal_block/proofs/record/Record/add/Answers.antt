@@ -1,7 +1,7 @@
 use Rattle.std.proofs.Common.{◌≤◌, ap, sym, ◌∙◌, subst, arith, length-set}
 use Rattle.std.proofs.lemmas.List.{take_more_set}
 use Rattle.vol_layout.specs.Edits.{AreApart, touches}
-use Rattle.vol_layout.specs.EditLaws.{AreApart-push}
+use Rattle.vol_layout.specs.laws.EditLaws.{AreApart-push}
 use Rattle.journal_block.specs.JournalRecord.{JournalRecord}
 use Rattle.journal_block.proofs.record.Record.add.Goals as goal
 

@@ -1,7 +1,7 @@
 use Rattle.std.proofs.Common.{◌≡◌, ◌≤◌, ◌+◌, ◌*◌, ◌++◌, ℕ, List, length, take, ap, ◌∙◌, arith, length-append, length-take-le}
 use Rattle.std.specs.List.{flat_map}
 use Rattle.vol_base.specs.Bytes.{bytes_of}
-use Rattle.vol_base.specs.RowLaws.{length-row}
+use Rattle.vol_base.specs.laws.RowLaws.{length-row}
 use Rattle.slot_lock_blocks.proofs.readers.Readers.push_to.Goals as goal
 
 -- a draft with the first n keys behind it

@@ -1,7 +1,7 @@
 use Rattle.std.proofs.Common.{List, [], ◌∷◌, subst, sym, take}
-use Rattle.hint_blocks.specs.HintListLaws.{take_more_get}
+use Rattle.hint_blocks.specs.laws.HintListLaws.{take_more_get}
 use Rattle.hint_blocks.specs.declared.entry.IndexEntry.{IndexEntry}
-use Rattle.sorted_shard.specs.ShelfLaws.{Gains-append}
+use Rattle.sorted_shard.proofs.ShelfLaws.{Gains-append}
 use Rattle.sorted_shard.specs.Shelves.{Gains}
 use Rattle.sorted_shard.proofs.shelf.Shelf.insert_all.Goals as goal
 

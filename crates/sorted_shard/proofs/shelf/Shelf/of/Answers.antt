@@ -1,6 +1,6 @@
 use Rattle.std.proofs.Common.{List, ap, arith, length, subst, sym, take}
 use Rattle.hint_blocks.specs.declared.entry.IndexEntry.{IndexEntry}
-use Rattle.sorted_shard.specs.ShelfLaws.{Gains-append}
+use Rattle.sorted_shard.proofs.ShelfLaws.{Gains-append}
 use Rattle.sorted_shard.specs.Shelves.{Gains, ShelfList, entries_in}
 use Rattle.sorted_shard.proofs.Shelving.{entries_in-more, gains_nothing}
 use Rattle.sorted_shard.proofs.shelf.Shelf.of.Goals as goal

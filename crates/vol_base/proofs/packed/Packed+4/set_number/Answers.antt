@@ -1,7 +1,7 @@
 use Rattle.std.proofs.Common.{ap, ◌∙◌, ℕ, List, [], refl, set}
 use Rattle.std.proofs.lemmas.List.{map-set}
 use Rattle.vol_base.specs.Bytes.{bytes_of, u32_at}
-use Rattle.vol_base.specs.BytesLaws.{number_at-last}
+use Rattle.vol_base.specs.laws.BytesLaws.{number_at-last}
 use Rattle.vol_base.specs.Packing.{numbers}
 use Rattle.vol_base.proofs.packed.Packed+4.set_number.Goals as goal
 

@@ -1,6 +1,6 @@
 use Rattle.std.proofs.Common.{◌∙◌, ap, sym, subst, arith}
 use Rattle.vol_base.specs.Packing.{IsPacked, packed_bytes, packing_of}
-use Rattle.vol_base.specs.PackingLaws.{IsPacked-packed_bytes, entries_fit, packing_of-packed_bytes}
+use Rattle.vol_base.specs.laws.PackingLaws.{IsPacked-packed_bytes, entries_fit, packing_of-packed_bytes}
 use Rattle.vol_base.proofs.Entries.{is_packing, pieces_written}
 use Rattle.vol_base.proofs.packed.Packed.into_block.Goals as goal
 

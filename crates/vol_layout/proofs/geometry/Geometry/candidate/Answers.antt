@@ -1,7 +1,7 @@
 use Rattle.std.proofs.Common.{◌≡◌, ◌<◌, ◌≤◌, ◌∙◌, ℕ, List, ap, arith}
 use Rattle.vol_base.specs.Bytes.{u32_at}
 use Rattle.vol_layout.specs.declared.geometry.Geometry.{Geometry}
-use Rattle.vol_layout.proofs.SuperblockLaws.{superblock_reads_back}
+use Rattle.vol_layout.specs.laws.SuperblockLaws.{superblock_reads_back}
 use Rattle.vol_layout.proofs.geometry.Geometry.candidate.Goals as goal
 
 -- a number that was read, and fits

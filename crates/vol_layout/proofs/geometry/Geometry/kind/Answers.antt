@@ -1,4 +1,4 @@
-use Rattle.vol_layout.proofs.PlaceLaws.{found_kind, found_none}
+use Rattle.vol_layout.specs.laws.PlaceLaws.{found_kind, found_none}
 use Rattle.vol_layout.proofs.geometry.Geometry.kind.Goals as goal
 
 pub returns-clause-kind : goal.returns-clause-kind

@@ -1,4 +1,4 @@
-use Rattle.vol_layout.proofs.PlaceLaws.{place_of-inside, kind_at-place}
+use Rattle.vol_layout.specs.laws.PlaceLaws.{place_of-inside, kind_at-place}
 use Rattle.vol_layout.proofs.geometry.Geometry.place.Goals as goal
 
 pub returns-clause-inside : goal.returns-clause-inside

@@ -1,11 +1,11 @@
 use Rattle.std.proofs.Common.{◌≡◌, ◌-◌, ◌++◌, ◌∙◌, List, length, ap, refl, sym, arith, length-append}
 use Rattle.std.specs.Prelude.{ℕ}
 use Rattle.vol_base.specs.Bytes.{bytes_of, zeros}
-use Rattle.vol_base.specs.BytesLaws.{length-bytes_of}
+use Rattle.vol_base.specs.laws.BytesLaws.{length-bytes_of}
 use Rattle.vol_layout.specs.declared.kind.Table.{Table}
 use Rattle.vol_layout.specs.declared.kind.Table.TheVariants as tables
 use Rattle.vol_layout.specs.Blank.{blank_table, table_magic}
-use Rattle.vol_layout.proofs.BlankLaws.{blank_table-is}
+use Rattle.vol_layout.specs.laws.BlankLaws.{blank_table-is}
 use Rattle.vol_layout.proofs.kind.Table.blank.Goals as goal
 
 -- a magic has eight bytes

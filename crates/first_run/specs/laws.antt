@@ -1,0 +1,5 @@
+pub mod DataLaws
+pub mod KeptLaws
+pub mod KeyLaws
+pub mod StoreLaws
+pub mod ToldLaws

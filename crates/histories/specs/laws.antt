@@ -1,0 +1,6 @@
+pub mod AnswerLaws
+pub mod EntryLaws
+pub mod FitLaws
+pub mod FrontLaws
+pub mod PhaseLaws
+pub mod PushLaws

@@ -1,0 +1,10 @@
+pub mod BalanceLaws
+pub mod EditLaws
+pub mod FileLaws
+pub mod FormatLaws
+pub mod FrameLaws
+pub mod GeometryLaws
+pub mod JournalLaws
+pub mod SumLaws
+pub mod UseLaws
+pub mod ValidLaws

@@ -1,0 +1,4 @@
+pub mod BytesLaws
+pub mod NumberBlockLaws
+pub mod PackingLaws
+pub mod RowLaws
