@@ -1,5 +1,9 @@
 //! The fingerprint of a block: its SHA-1 (FIPS 180-4), by which equal blocks are found. Two blocks of
 //! one digest may still differ.
+//!
+//! # What is proved
+//!
+//! - `digest_of` is exactly the SHA-1 of the block's bytes, by the definition of the ported crate `sha1`.
 #![tactic(auto)]
 
 ghost use Rattle.std.specs.Prelude.{◌≡◌};
