@@ -57,7 +57,7 @@ impl PlainFiles {
     }
 
     /// Makes a plain call. Only a call that makes a file longer can be refused memory.
-    #[tactic(auto, using(crate::proofs::CallLaws::kept_by_calls), unfolding(crate::specs::Calls::reply_of, crate::specs::Calls::after))]
+    #[tactic(auto, using(crate::specs::laws::CallLaws::kept_by_calls), unfolding(crate::specs::Calls::reply_of, crate::specs::Calls::after))]
     pub fn apply(&mut self, call: &PlainCall) -> Result<PlainReply, NoMemory>
         requires { file_no call.now < length self.old.files }
         ensures reply { IfOk result (λ reply. reply ≡ reply_of self.old call.now) }
