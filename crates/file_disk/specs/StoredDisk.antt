@@ -3,6 +3,7 @@ use Rattle.shared_disk.specs.Calls.{next_count}
 use Rattle.shared_disk.specs.State.{State, Told}
 use Rattle.shared_disk.specs.declared.answers.DiskNo.{DiskNo}
 use Rattle.shared_disk.specs.declared.answers.DiskNo.TheVariants.{Failed}
+use Rattle.file_disk.specs.declared.store.TheConstants.{BLOCKS}
 use Rattle.file_disk.specs.declared.stored_disk.StoredDisk.{StoredDisk}
 
 -- a store with its registered keys and counts: what the calls of a device over it see and change
@@ -23,7 +24,7 @@ fresh store counter = record { store = store; keys = []; counter = counter; faul
 
 -- the device's state, where the first argument says what a store tells
 abbrev pub state_of : {S : Type 0} → (S → Option Told) → Keyed S → State
-state_of told keyed = record { blocks = 66177; keys = keyed.keys; counter = keyed.counter; told = told keyed.store }
+state_of told keyed = record { blocks = BLOCKS; keys = keyed.keys; counter = keyed.counter; told = told keyed.store }
 
 -- so many more registrations need no memory
 abbrev pub room_of : {S : Type 0} → Keyed S → ℕ

@@ -14,16 +14,12 @@
 //! - Only tested: that the calls of `VolumeFile` read and write those bytes of the file and no others.
 #![tactic(auto)]
 
-#[cfg(test)]
-mod few_blocks;
 mod file_disk;
 mod store;
 mod stored_disk;
-#[cfg(test)]
-mod tests;
 mod volume_file;
 
 pub use file_disk::FileDisk;
 pub use store::{BLOCKS, Store};
 pub use stored_disk::StoredDisk;
-pub use volume_file::VolumeFile;
+pub use volume_file::{VolumeFile, read_padded};

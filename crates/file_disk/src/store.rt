@@ -1,7 +1,8 @@
 // Where a device keeps its blocks and its counter.
-ghost use Rattle.std.specs.Prelude.{◌≡◌, ◌<◌, ℕ, Bool, IfOk, IfSome, IsTrue, length, OnErr, OnOk, Option, Some, option_map, slice_get};
+ghost use Rattle.std.specs.Prelude.{◌≡◌, ◌<◌, ℕ, All, Bool, IfOk, IfSome, IsTrue, length, OnErr, OnOk, Option, Some, option_map, slice_get};
 ghost use Rattle.shared_disk.specs.Calls.{told_after};
 ghost use Rattle.shared_disk.specs.State.{Told};
+ghost use Rattle.vol_base.specs.Bytes.{IsBlock};
 ghost use Rattle.file_disk.specs.declared.store.TheConstants.{BLOCKS};
 
 use std::io;
@@ -9,9 +10,6 @@ use vol_base::Block;
 
 /// The number of blocks of a store, which is that of the largest volume.
 pub const BLOCKS: u64 = 66_177;
-
-// The counter of a device that has given all its keys.
-pub(crate) const LAST_COUNTER: u64 = (1 << 59) - 1;
 
 /// Where a device keeps its blocks and its counter: what is asked of the outside. A call that
 /// fails changes neither.
@@ -50,4 +48,7 @@ pub trait Store: Drop {
 
     /// The image, where it is told, has `BLOCKS` blocks.
     ghost whole_image: { (s : Self) → IfSome (told s) (λ told. length told.image ≡ BLOCKS) };
+
+    /// The image, where it is told, is made of blocks: each is 4,096 bytes.
+    ghost whole_blocks: { (s : Self) → IfSome (told s) (λ told. All IsBlock told.image) };
 }

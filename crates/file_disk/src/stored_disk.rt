@@ -1,9 +1,10 @@
 // A device over a store.
 ghost use Rattle.std.specs.Prelude.{◌≡◌, ◌≢◌, ◌+◌, ◌-◌, ◌*◌, ◌/◌, ◌^◌, ◌<◌, ◌≤◌, ◌↔◌, ℕ, All, false, IsTrue, length, vec_capacity, vec_len};
 ghost use Rattle.std.specs.Option.{ForSome};
+ghost use Rattle.shared_disk.specs.Calls.{last_counter};
 
-use crate::store::{BLOCKS, LAST_COUNTER, Store};
-use shared_disk::{Device, DiskNo, Tested};
+use crate::store::{BLOCKS, Store};
+use shared_disk::{Device, DiskNo, LAST_COUNTER, Tested};
 use std::alloc::Global;
 use vol_base::{Block, HostNo, Key, NoMemory};
 
@@ -132,7 +133,7 @@ impl<S: Store> StoredDisk<S> {
     // Raises the counter and registers the host's key.
     fn add_key(&mut self, host: HostNo) -> Result<Key, DiskNo>
         requires host { host < 16 }
-        requires counter { (keyed_of self.old).counter < 2 ^ 59 - 1 }
+        requires counter { (keyed_of self.old).counter < last_counter }
         ensures key { IfOk result (λ key. key.0 ≡ next_key host (state_of S.told (keyed_of self.old))) }
         ensures ok { OnOk result (state_of S.told (keyed_of self.new) ≡ after_register host (state_of S.told (keyed_of self.old))) }
         ensures err { OnErr result (state_of S.told (keyed_of self.new) ≡ state_of S.told (keyed_of self.old)) }
@@ -268,7 +269,7 @@ impl<S: Store> Device for StoredDisk<S> {
         ensures same { OnErr result (state_of S.told (keyed_of self.new) ≡ state_of S.told (keyed_of self.old)) }
 
         ensures closed { S.is_open (keyed_of self.old).store ≡ false → result ≡ Err DiskNo.Failed }
-        ensures no_keys { (result ≡ Err DiskNo.NoKeys) ↔ ((keyed_of self.old).counter ≡ 2 ^ 59 - 1) }
+        ensures no_keys { (result ≡ Err DiskNo.NoKeys) ↔ ((keyed_of self.old).counter ≡ last_counter) }
         ensures failed { result ≡ Err DiskNo.Failed → Rose (keyed_of self.old).faults (keyed_of self.new).faults }
         ensures fenced { result ≢ Err DiskNo.Fenced }
         ensures memory { result ≡ Err DiskNo.NoMemory → room_of (keyed_of self.old) ≡ 0 }
@@ -306,6 +307,8 @@ impl<S: Store> Device for StoredDisk<S> {
     }
 
     ghost whole_image = { λ d. S.whole_image d.store };
+
+    ghost whole_blocks = { λ d. S.whole_blocks d.store };
 
     ghost keys_reached = { λ d. d.reached };
 

@@ -1,8 +1,10 @@
 // The file that holds a volume.
 ghost use Rattle.std.specs.Prelude.{◌≡◌, ◌+◌, ◌-◌, ◌*◌, ◌^◌, ◌<◌, length, min, false, IfOk, None, OnErr, OnOk, true};
 ghost use Rattle.std.specs.Int.{from_be_bytes, w64};
+ghost use Rattle.shared_disk.specs.Calls.{last_counter};
 
-use crate::store::{BLOCKS, LAST_COUNTER, Store};
+use crate::store::{BLOCKS, Store};
+use shared_disk::LAST_COUNTER;
 use std::fs::{File, OpenOptions};
 use std::io;
 use std::io::ErrorKind;
@@ -60,7 +62,7 @@ fn open_with_counter<R: Files<File = File>>(rt: &R, path: &str) -> io::Result<(F
 
 // The counter that these bytes spell; one past the last stands for the last.
 fn counter_of(bytes: [u8; 8]) -> u64
-    ensures { result ≡ min (from_be_bytes w64 bytes) (2 ^ 59 - 1) }
+    ensures { result ≡ min (from_be_bytes w64 bytes) last_counter }
 {
     u64::from_be_bytes(bytes).min(LAST_COUNTER)
 }
@@ -73,8 +75,8 @@ fn byte_of(place: u64) -> u64
     BLOCK_BYTES * (place + 1)
 }
 
-// Reads the bytes from byte `at` on over those in `into`; past the end of the file these stay.
-pub(crate) fn read_padded<F: FileExt>(file: &F, at: u64, into: &mut [u8]) -> io::Result<()>
+/// Reads the bytes from byte `at` on over those in `into`; past the end of the file these stay.
+pub fn read_padded<F: FileExt>(file: &F, at: u64, into: &mut [u8]) -> io::Result<()>
     requires { at + length into.old < 2 ^ 64 }
 {
     let mut done = 0;
@@ -116,4 +118,6 @@ impl Store for VolumeFile {
     }
 
     ghost whole_image = { λ _. tt };
+
+    ghost whole_blocks = { λ _. tt };
 }

@@ -9,9 +9,6 @@
 ghost use Rattle.std.specs.Prelude.{◌≡◌};
 ghost use Rattle.fingerprint.specs.DigestOf.{digest_of};
 
-#[cfg(test)]
-mod tests;
-
 use sha1::Sha1;
 use vol_base::{Block, Digest};
 

@@ -9,9 +9,9 @@ use Rattle.vol_base.specs.declared.plain.PlainCall.{PlainCall}
 use Rattle.vol_base.specs.declared.plain.PlainReply.{PlainReply}
 use Rattle.vol_layout.specs.declared.geometry.Geometry.{Geometry}
 use Rattle.image_view.specs.Images.{Image}
-use Rattle.shared_disk.specs.State.{State, Told}
-use Rattle.first_run.specs.Effects.{IsAfterCall, IsReplyOf, KeepsFiles}
-use Rattle.first_run.specs.Seats.{OnImages, RunState}
+use Rattle.shared_disk.specs.State.{OnImages, State, Told}
+use Rattle.call_effects.specs.Places.{IsAfterCall, IsReplyOf, KeepsFiles}
+use Rattle.first_run.specs.Seats.{RunState}
 use Rattle.first_run.specs.Steps.{IsCutAfter, Says}
 use Rattle.first_run.specs.laws.ToldLaws.{told-none, told-weaker}
 

@@ -1,31 +1,19 @@
 -- What a call leaves of an image's files, by the files of its volume.
-use Rattle.std.proofs.Common.{◌≡◌, ◌≢◌, ◌<◌, ◌+◌, ℕ, List, map, Option, Some, None, sym, ap, ◌∙◌, inl, inr}
-use Rattle.std.specs.List.{range_with_len}
+use Rattle.std.proofs.Common.{◌≡◌, ◌≢◌, ◌<◌, ℕ, List, Option, sym, ap, ◌∙◌, inl, inr}
 use Rattle.std.proofs.lemmas.Bool.{cases_lt}
 use Rattle.vol_base.specs.declared.block.Block.{Block}
 use Rattle.vol_base.specs.declared.plain.PlainCall.{PlainCall}
 use Rattle.vol_layout.specs.declared.geometry.Geometry.{Geometry}
 use Rattle.vol_layout.specs.declared.kind.Kind.TheVariants as kinds
 use Rattle.vol_layout.specs.declared.field.Field.{Field}
-use Rattle.vol_layout.specs.declared.field.Field.TheVariants.{Head}
 use Rattle.vol_layout.specs.Ranges.{limit}
 use Rattle.vol_layout.specs.Superblock.{SpellsGeometry}
 use Rattle.plain_files.specs.Calls.{file_no, outcome}
 use Rattle.image_view.specs.Files.{image_file, volume_file}
-use Rattle.image_view.specs.laws.FileLaws.{shown, volume_file_none, volume_file_some}
 use Rattle.image_view.specs.laws.GeometryLaws.{first_block-is, image_file-past, image_file-volume}
 use Rattle.image_view.specs.Images.{Image, first_block}
-use Rattle.image_view.specs.Numbers.{logical}
-use Rattle.first_run.specs.Effects.{Becomes, IsAfterCall}
-
--- a file is there, with one block less than its head says
-pub file-there : (g : Geometry) (image : Image) (f n : ℕ) → SpellsGeometry (first_block image) g → f < g.files → logical g image (Head f) ≡ n + 1
-    → image_file image f ≡ Some (map (shown g image f) (range_with_len 0 n))
-file-there g image f n is below head = image_file-volume g image f is below ∙ volume_file_some g image f n head
-
--- or it is not there, where its head is 0
-pub file-absent : (g : Geometry) (image : Image) (f : ℕ) → SpellsGeometry (first_block image) g → f < g.files → logical g image (Head f) ≡ 0 → image_file image f ≡ None
-file-absent g image f is below head = image_file-volume g image f is below ∙ volume_file_none g image f head
+use Rattle.first_run.specs.Effects.{Becomes}
+use Rattle.call_effects.specs.Places.{IsAfterCall}
 
 -- no change of numbers and data blocks is one of the superblock
 pub first_block-kept : (g : Geometry) (old new : Image) (numbers : Field → ℕ) (bytes : ℕ → List ℕ) → Becomes g old new numbers bytes → first_block new ≡ first_block old

@@ -11,7 +11,7 @@ use Rattle.vol_base.specs.declared.plain.PlainCall.{PlainCall}
 use Rattle.vol_base.specs.declared.plain.PlainReply.{PlainReply}
 use Rattle.vol_layout.specs.declared.geometry.Geometry.{Geometry}
 use Rattle.vol_layout.specs.Regions.{total}
-use Rattle.shared_disk.specs.State.{State, Told}
+use Rattle.shared_disk.specs.State.{OnImages, State, Told}
 use Rattle.volume_tables.specs.declared.access.AccessNo.{AccessNo}
 use Rattle.first_run.proofs.AnyTold.{told-any}
 use Rattle.first_run.proofs.BuiltLaws.{may-call}
@@ -20,7 +20,7 @@ use Rattle.first_run.specs.Halts.{IsHalted, IsRefusedFor}
 use Rattle.first_run.specs.Made.{IsMade}
 use Rattle.first_run.specs.Owing.{AreOwed, IsKept, edits_owed}
 use Rattle.first_run.proofs.SeatLaws.{counter-kept, keys-kept, length-kept}
-use Rattle.first_run.specs.Seats.{ChangesContent, HasVolume, IsBetween, IsServed, OnImages, run_state}
+use Rattle.first_run.specs.Seats.{ChangesContent, HasVolume, IsBetween, IsServed, run_state}
 use Rattle.first_run.specs.Steps.{EndsIn, IfCut, IsCutAfter, IsCutDevice, IsCutOf, IsJoined, Step, reply_in}
 use Rattle.first_run.specs.laws.ToldLaws.{told-after, told-weaker}
 use Rattle.first_run.specs.declared.seat.Owed.{Owed}

@@ -7,8 +7,10 @@ use Rattle.image_view.specs.Balances.{edit}
 use Rattle.image_view.specs.laws.FileLaws.{volume_file_some}
 use Rattle.image_view.specs.Images.{Image}
 use Rattle.image_view.specs.Numbers.{logical}
-use Rattle.first_run.proofs.CallLaws.{after-call, file-absent, first_block-kept}
-use Rattle.first_run.specs.Effects.{IsAfterCall, blocks_of, given}
+use Rattle.first_run.proofs.CallLaws.{after-call, first_block-kept}
+use Rattle.call_effects.specs.Places.{IsAfterCall}
+use Rattle.call_effects.specs.laws.PlaceLaws.{file-absent}
+use Rattle.first_run.specs.Effects.{blocks_of, given}
 use Rattle.first_run.proofs.GivenLaws.{given-other, given-same}
 use Rattle.first_run.specs.Halts.{IsStored}
 use Rattle.first_run.proofs.OtherFiles.{Spares, spared-file}

@@ -5,21 +5,22 @@ use Rattle.vol_base.specs.declared.plain.PlainCall.TheVariants.{Create}
 use Rattle.vol_base.specs.declared.plain.PlainReply.TheVariants.{Done, Exists}
 use Rattle.vol_layout.specs.declared.geometry.Geometry.{Geometry}
 use Rattle.vol_layout.specs.declared.field.Field.TheVariants.{Head}
-use Rattle.shared_disk.specs.State.{State}
+use Rattle.shared_disk.specs.State.{OnImages, State}
 use Rattle.image_view.specs.Balances.{edit}
 use Rattle.image_view.specs.Images.{Image}
 use Rattle.image_view.specs.Numbers.{logical}
 use Rattle.first_run.specs.declared.seat.Owed.TheVariants as owing
-use Rattle.first_run.proofs.CallLaws.{file-absent}
+use Rattle.call_effects.specs.Places.{IsAfterCall, IsReplyOf}
+use Rattle.call_effects.specs.laws.LookLaws.{IsLook, look-exists}
+use Rattle.call_effects.specs.laws.PlaceLaws.{file-absent}
 use Rattle.first_run.proofs.CreateLaws.{created-files}
-use Rattle.first_run.specs.Effects.{Changes, IsAfterCall, IsReplyOf}
+use Rattle.first_run.specs.Effects.{Changes}
 use Rattle.first_run.specs.Halts.{IsStored}
 use Rattle.first_run.specs.Made.{IsReplied}
 use Rattle.first_run.specs.Owing.{IsKept}
 use Rattle.first_run.proofs.RepliedLaws.{replied-left}
-use Rattle.first_run.proofs.ReplyLaws.{LeavesFile, leaves-exists}
 use Rattle.first_run.proofs.SeatLaws.{counter-kept}
-use Rattle.first_run.specs.Seats.{ChangesContent, HasVolume, OnImages}
+use Rattle.first_run.specs.Seats.{ChangesContent, HasVolume}
 use Rattle.first_run.specs.laws.StoreLaws.{head-kept, stored-becomes}
 use Rattle.first_run.proofs.ToldFacts.{told-both, told-fact}
 use Rattle.first_run.specs.laws.ToldLaws.{told-after, told-weaker}
@@ -36,8 +37,8 @@ pub create_exists : (g : Geometry) (before after : State) (f n : ℕ) → after 
     → IsReplied g (Create f) Exists before after
 create_exists g before after f n same below kept head =
     replied-left g (Create f) Exists before after same (λ image. refl)
-    (told-fact (HasLength g before.counter f n) (LeavesFile g (Create f) Exists) before.told
-    (λ image is. leaves-exists g image f n is.0.readable.superblock below is.1)
+    (told-fact (HasLength g before.counter f n) (IsLook g (Create f) Exists) before.told
+    (λ image is. look-exists g image f n is.0.readable.superblock below is.1)
     (told-both (λ image. IsKept g before.counter image []) (λ image. logical g image (Head f) ≡ n + 1) before.told kept head))
 
 pub create_done : (g : Geometry) (before middle after : State) (f : ℕ) → middle ≡ before → f < g.files → HasVolume g before owing.Nothing → IfSome before.told (λ t. logical g t.image (Head f) ≡ 0)

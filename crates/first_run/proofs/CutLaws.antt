@@ -9,16 +9,17 @@ use Rattle.vol_base.specs.declared.command.Command.{Command}
 use Rattle.vol_base.specs.declared.plain.PlainReply.{PlainReply}
 use Rattle.vol_layout.specs.declared.geometry.Geometry.{Geometry}
 use Rattle.volume_tables.specs.declared.access.AccessNo.{AccessNo}
-use Rattle.volume_tables.specs.declared.access.AccessNo.TheVariants as refusals
+use Rattle.volume_tables.specs.declared.access.AccessNo.TheVariants as access_refusals
 use Rattle.first_run.specs.Halts.{IsRefusedFor}
-use Rattle.first_run.specs.Seats.{OnImages, RunState}
+use Rattle.shared_disk.specs.State.{OnImages}
+use Rattle.first_run.specs.Seats.{RunState}
 use Rattle.first_run.specs.Steps.{IfCut, IsCause, IsCutAfter, IsCutDevice, IsCutOf, IsJoined, MayCall, Step}
 
 cut_cause : (g : Geometry) (refusal : AccessNo) (by : CutBy) (before after : RunState) → IsCutOf refusal by → IsRefusedFor g before.device.told before.faults after.faults refusal
     → IsCause g by before after
-cut_cause g refusals.Failed by before after is refused = subst (λ (b : CutBy). IsCause g b before after) (sym is) refused
-cut_cause g (refusals.Bad place) by before after is refused = subst (λ (b : CutBy). IsCause g b before after) (sym is) refused
-cut_cause g refusals.NoMemory by before after is refused = absurd is
+cut_cause g access_refusals.Failed by before after is refused = subst (λ (b : CutBy). IsCause g b before after) (sym is) refused
+cut_cause g (access_refusals.Bad place) by before after is refused = subst (λ (b : CutBy). IsCause g b before after) (sym is) refused
+cut_cause g access_refusals.NoMemory by before after is refused = absurd is
 
 -- what cuts it is why it was refused a block
 pub cut-step : (g : Geometry) (command : Command) (refusal : AccessNo) (answer : Answer) (placed : Option PlainReply) (before after : RunState) → IfCut answer (IsCutOf refusal)

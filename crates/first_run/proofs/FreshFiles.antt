@@ -11,9 +11,10 @@ use Rattle.image_view.specs.Images.{Image}
 use Rattle.image_view.specs.Mappings.{uses}
 use Rattle.image_view.specs.Numbers.{logical}
 use Rattle.image_view.specs.Pointers.{IsUnmarked, named}
-use Rattle.first_run.specs.Effects.{Becomes, IsAfterCall, blocks_of, given, stored}
+use Rattle.first_run.specs.Effects.{Becomes, blocks_of, given, stored}
+use Rattle.call_effects.specs.Places.{IsAfterCall}
+use Rattle.call_effects.specs.laws.PointerLaws.{named-unmarked}
 use Rattle.first_run.proofs.GivenLaws.{given-other, given-same}
-use Rattle.first_run.proofs.InPlaceLaws.{named-unmarked}
 use Rattle.first_run.specs.Owing.{IsKept}
 use Rattle.first_run.proofs.WrittenLaws.{WritesTo, written-files}
 

@@ -7,8 +7,8 @@ use Rattle.vol_layout.specs.declared.geometry.Geometry.{Geometry}
 use Rattle.vol_layout.specs.declared.field.Field.TheVariants.{Pointer, Count}
 use Rattle.vol_layout.specs.declared.field.Edit.{Edit}
 use Rattle.vol_layout.specs.Edits.{same_field, touches}
-use Rattle.vol_layout.specs.Fields.{HasField, IsPointer}
-use Rattle.vol_layout.specs.Ranges.{IsGeometry, data_blocks, per_table}
+use Rattle.vol_layout.specs.Fields.{HasField}
+use Rattle.vol_layout.specs.Ranges.{IsGeometry}
 use Rattle.image_view.specs.Balances.{Balances, edit, share, share_of}
 use Rattle.image_view.specs.laws.BalanceLaws.{AreCounts, Moves, balances-fill, balances-move, lower_raise, share_named}
 use Rattle.image_view.specs.laws.FileLaws.{used_once}
@@ -19,23 +19,9 @@ use Rattle.image_view.specs.Pointers.{IsUnmarked, named}
 use Rattle.image_view.specs.Records.{KeepsMarks}
 use Rattle.image_view.specs.laws.UseLaws.{share-le-uses, share_unmarked}
 use Rattle.first_run.specs.Halts.{IsStored}
-use Rattle.first_run.proofs.InPlaceLaws.{named-unmarked}
+use Rattle.call_effects.specs.laws.PointerLaws.{fresh-range, fresh-unmarked, named-unmarked}
 use Rattle.first_run.proofs.OwedLaws.{pointer-owed}
 use Rattle.first_run.specs.Owing.{IsKept, counts_of}
-
--- the number of a pointer to a data block, without the mark
-pub fresh-unmarked : (g : Geometry) (d : ℕ) → IsGeometry g → HasField g (Count d) → IsUnmarked (d + 1)
-unfolding data_blocks per_table
-fresh-unmarked g d is has = (omega arith, omega (arith, has, is.groups.1))
-
-pub fresh-range : (g : Geometry) (d : ℕ) → IsGeometry g → HasField g (Count d) → IsPointer g (d + 1)
-fresh-range g d is has =
-    let un = fresh-unmarked g d is has in
-    record {
-      width = omega (arith, un.1);
-      hole = λ e. absurd (omega (arith, un.1, e));
-      names = omega (arith, un.1, has);
-    }
 
 -- the pointer takes nothing of what it comes to name, and each pointer without the mark names something else
 fresh_marks : (g : Geometry) (image : Image) (f i d : ℕ) → HasField g (Pointer f i) → uses g image d ≡ 0 → IsUnmarked (d + 1) → KeepsMarks g image (edit (Pointer f i) (d + 1) ∷ [])

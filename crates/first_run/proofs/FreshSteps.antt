@@ -21,9 +21,11 @@ use Rattle.volume_tables.specs.Free.{IsLowestFree}
 use Rattle.volume_tables.specs.laws.WriteLaws.{IsEdited-with_data}
 use Rattle.first_run.proofs.CallLaws.{first_block-kept}
 use Rattle.first_run.specs.laws.DataLaws.{data-becomes, data-kept, free-unmapped}
-use Rattle.first_run.specs.Effects.{Becomes, IsAfterCall, KeepsFiles, WritesFresh, blocks_of, given, stored}
+use Rattle.first_run.specs.Effects.{Becomes, WritesFresh, blocks_of, given, stored}
+use Rattle.call_effects.specs.Places.{IsAfterCall, KeepsFiles}
+use Rattle.call_effects.specs.laws.PointerLaws.{fresh-unmarked}
 use Rattle.first_run.proofs.FreshFiles.{fresh-becomes, fresh-files}
-use Rattle.first_run.proofs.FreshLaws.{fresh-owed, fresh-unmarked}
+use Rattle.first_run.proofs.FreshLaws.{fresh-owed}
 use Rattle.first_run.specs.Halts.{IsPaid, IsStored}
 use Rattle.first_run.specs.laws.KeptLaws.{kept-valid}
 use Rattle.first_run.specs.Owing.{IsKept, counts_of}

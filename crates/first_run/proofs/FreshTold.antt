@@ -12,7 +12,7 @@ use Rattle.vol_layout.specs.Fields.{HasField}
 use Rattle.vol_layout.specs.Places.{place_of}
 use Rattle.vol_layout.specs.Ranges.{IsGeometry}
 use Rattle.shared_disk.specs.Calls.{after_write}
-use Rattle.shared_disk.specs.State.{State, Told}
+use Rattle.shared_disk.specs.State.{OnImages, State, Told}
 use Rattle.image_view.specs.Balances.{edit}
 use Rattle.image_view.specs.Images.{Image, written}
 use Rattle.image_view.specs.Numbers.{logical}
@@ -22,15 +22,16 @@ use Rattle.volume_tables.specs.Free.{IsLowestFree}
 use Rattle.first_run.specs.declared.seat.Owed.{Owed}
 use Rattle.first_run.specs.declared.seat.Owed.TheVariants as owing
 use Rattle.first_run.specs.laws.DataLaws.{data-kept}
-use Rattle.first_run.specs.DataTold.{IsWritten, data-content, data-told}
-use Rattle.first_run.specs.Effects.{Changes, IsAfterCall, IsReplyOf, WritesFresh}
-use Rattle.first_run.proofs.FreshLaws.{fresh-unmarked}
+use Rattle.first_run.specs.DataTold.{IsPutAt, data-content, data-told}
+use Rattle.first_run.specs.Effects.{Changes, WritesFresh}
+use Rattle.call_effects.specs.Places.{IsAfterCall, IsReplyOf}
+use Rattle.call_effects.specs.laws.PointerLaws.{fresh-unmarked}
 use Rattle.first_run.proofs.FreshSteps.{MayWriteFresh, fresh-call, fresh-changes, fresh-data, fresh-pointer}
 use Rattle.first_run.specs.Halts.{IsHalted, IsPaid, IsStored}
-use Rattle.first_run.specs.Made.{IsFull, IsReplied}
+use Rattle.first_run.specs.Made.{IsReplied}
 use Rattle.first_run.specs.Owing.{IsKept, counts_of, edits_owed}
 use Rattle.first_run.proofs.SeatLaws.{counter-kept}
-use Rattle.first_run.specs.Seats.{ChangesContent, HasVolume, OnImages}
+use Rattle.first_run.specs.Seats.{ChangesContent, HasVolume}
 use Rattle.first_run.proofs.ToldFacts.{told-both, told-fact}
 use Rattle.first_run.specs.laws.ToldLaws.{told-after, told-trans, told-weaker}
 use Rattle.first_run.proofs.WrittenLaws.{write-reply}
@@ -68,12 +69,12 @@ abbrev Pointed : Geometry → ℕ → ℕ → ℕ → ℕ → List ℕ → Image
 Pointed g counter f i d bytes old two = IsStored g counter (edit (Pointer f i) (d + 1) ∷ []) (written g old (kinds.Number d) bytes) two
 
 ended : (g : Geometry) (before : State) (one two new : Option Told) (f i d : ℕ) (shared : Option ℕ) (block : Block) (owed left : List Edit) → MayWrite g before f i d shared owed
-    → OnImages (IsWritten (place_of g (kinds.Number d)) block.0) before.told one → OnImages (IsStored g before.counter (edit (Pointer f i) (d + 1) ∷ [])) one two
+    → OnImages (IsPutAt (place_of g (kinds.Number d)) block.0) before.told one → OnImages (IsStored g before.counter (edit (Pointer f i) (d + 1) ∷ [])) one two
     → OnImages (IsPaid g before.counter owed left) two new → OnImages (Wrote g before.counter f i block left) before.told new
 ended g before one two new f i d shared block owed left may written_is pointer paid =
     let F : Image → Type 0 = MayWriteFresh g before.counter f i d shared in
     let pointed : OnImages (Pointed g before.counter f i d block.0) before.told two =
-    told-trans F (IsWritten (place_of g (kinds.Number d)) block.0) (IsStored g before.counter (edit (Pointer f i) (d + 1) ∷ [])) (Pointed g before.counter f i d block.0) before.told one two
+    told-trans F (IsPutAt (place_of g (kinds.Number d)) block.0) (IsStored g before.counter (edit (Pointer f i) (d + 1) ∷ [])) (Pointed g before.counter f i d block.0) before.told one two
     (λ a b c is first stored. subst (λ (image : Image). IsStored g before.counter (edit (Pointer f i) (d + 1) ∷ []) image c) first stored) may.fresh written_is pointer in
     told-trans (λ image. F image × (owed ≡ counts_of g image d shared)) (Pointed g before.counter f i d block.0) (IsPaid g before.counter owed left) (Wrote g before.counter f i block left) before.told two new
     (λ a b c is stored counts. record {
@@ -125,21 +126,11 @@ pub fresh_unpointed : (g : Geometry) (before middle after : State) (f i d : ℕ)
 fresh_unpointed g before middle after f i d shared block owed may same written_is =
     let place = place_of g (kinds.Number d) in
     let F : Image → Type 0 = MayWriteFresh g before.counter f i d shared in
-    told-weaker F (IsWritten place block.0) (IsHalted g before.counter (Write f i block) None []) before.told after.told
+    told-weaker F (IsPutAt place block.0) (IsHalted g before.counter (Write f i block) None []) before.told after.told
     (λ old new is r. subst (IsHalted g before.counter (Write f i block) None [] old) (sym r) (record {
       kept = data-kept g before.counter old d block.0 may.free is.kept;
       files = fresh-data g before.counter f i d shared old block.0 is;
     })) may.fresh (data-told place block.0 before after (subst (λ (s : State). after ≡ after_write place block.0 s) same written_is))
-
--- no data block has the count 0
-pub fresh_full : (g : Geometry) (before : State) (f i : ℕ) (shared : Option ℕ) → IfSome before.told (λ t. i + 1 < logical g t.image (Head f)) → IfSome before.told (λ t. IsLowestFree g t.image None)
-    → IfSome before.told (λ t. (named (logical g t.image (Pointer f i)) ≡ shared) × (IsUnmarked (logical g t.image (Pointer f i)) → ⊥)) → IfSome before.told (λ t. IsFull g f i t.image)
-fresh_full g before f i shared inside none names =
-    let I : Image → Type 0 = λ image. i + 1 < logical g image (Head f) in
-    let L : Image → Type 0 = λ image. IsLowestFree g image None in
-    let N : Image → Type 0 = λ image. (named (logical g image (Pointer f i)) ≡ shared) × (IsUnmarked (logical g image (Pointer f i)) → ⊥) in
-    told-fact (λ image. I image × (L image × N image)) (IsFull g f i) before.told (λ image h. record { below = h.0; other = h.1.1.1; none = h.1.0 })
-    (told-both I (λ image. L image × N image) before.told inside (told-both L N before.told none names))
 
 -- the facts before the first write, as they were read
 pub may_write : (g : Geometry) (before middle : State) (f i d : ℕ) (shared free : Option ℕ) (owed : Owed) → IsGeometry g → HasField g (Pointer f i) → free ≡ Some d → IfSome free (λ n. HasField g (Count n))

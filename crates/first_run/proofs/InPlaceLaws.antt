@@ -1,7 +1,5 @@
 -- A write to a data block that one pointer alone names.
 use Rattle.std.proofs.Common.{◌≡◌, ◌<◌, ◌+◌, ◌-◌, ℕ, List, [], Some, refl, ap, sym, ◌∙◌, subst, arith}
-use Rattle.std.proofs.Math.Nat.{mod-eq_of_lt}
-use Rattle.std.proofs.lemmas.Bool.{ne_eqb}
 use Rattle.vol_base.specs.declared.block.Block.{Block}
 use Rattle.vol_base.specs.declared.plain.PlainCall.TheVariants.{Write}
 use Rattle.vol_layout.specs.declared.geometry.Geometry.{Geometry}
@@ -13,18 +11,12 @@ use Rattle.image_view.specs.Mappings.{uses}
 use Rattle.image_view.specs.Numbers.{logical}
 use Rattle.image_view.specs.Pointers.{IsUnmarked, named}
 use Rattle.first_run.specs.laws.DataLaws.{data-becomes}
-use Rattle.first_run.specs.Effects.{IsAfterCall, WritesInPlace}
+use Rattle.first_run.specs.Effects.{WritesInPlace}
+use Rattle.call_effects.specs.Places.{IsAfterCall}
+use Rattle.call_effects.specs.laws.MarkLaws.{named-alone}
+use Rattle.call_effects.specs.laws.PointerLaws.{named-unmarked}
 use Rattle.first_run.specs.Owing.{IsKept}
-use Rattle.first_run.proofs.TwoUses.{named-once}
 use Rattle.first_run.proofs.WrittenLaws.{WritesTo, written-files}
-
--- a pointer without the mark names its number less 1
-pub named-unmarked : (n d : ℕ) → n ≡ d + 1 → IsUnmarked n → named n ≡ Some d
-named-unmarked n d is un =
-    let small = mod-eq_of_lt un.1 in
-    let some = ne_eqb n 0 (λ e. absurd (omega (arith, e, un.0))) in
-    let less : n - 1 ≡ d = omega (arith, is) in
-    rw (small, some, less) refl
 
 in_place : (g : Geometry) (counter : ℕ) (image : Image) (f i d : ℕ) → IsKept g counter image [] → HasField g (Pointer f i) → logical g image (Pointer f i) ≡ d + 1 → IsUnmarked (logical g image (Pointer f i))
     → WritesTo g image f i d (λ x. logical g image x)
@@ -36,7 +28,7 @@ in_place g counter image f i d kept has names un =
       heads = λ h below. refl;
       pointers = λ h j there other. refl;
       here = here;
-      alone = λ h j e there other is same. named-once g image f i h j d has there other here once (subst (λ (k : ℕ). named (logical g image (Pointer h j)) ≡ Some k) (sym same) is);
+      alone = λ h j e there other is same. named-alone g image f i h j d has there other here once (subst (λ (k : ℕ). named (logical g image (Pointer h j)) ≡ Some k) (sym same) is);
     }
 
 pub in_place-files : (g : Geometry) (counter : ℕ) (image : Image) (f i d : ℕ) (block : Block) → IsKept g counter image [] → HasField g (Pointer f i) → HasField g (Count d)

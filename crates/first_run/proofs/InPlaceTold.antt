@@ -10,19 +10,20 @@ use Rattle.vol_layout.specs.declared.field.Field.TheVariants.{Head, Pointer, Cou
 use Rattle.vol_layout.specs.Fields.{HasField}
 use Rattle.vol_layout.specs.Places.{place_of}
 use Rattle.shared_disk.specs.Calls.{after_write}
-use Rattle.shared_disk.specs.State.{State}
+use Rattle.shared_disk.specs.State.{OnImages, State}
 use Rattle.image_view.specs.Images.{Image}
 use Rattle.image_view.specs.Numbers.{logical}
 use Rattle.image_view.specs.Pointers.{IsNumber, IsUnmarked, pointer_number}
 use Rattle.image_view.specs.declared.pointer.Number.{Number}
 use Rattle.image_view.specs.declared.pointer.Number.TheVariants.{At}
 use Rattle.first_run.specs.declared.seat.Owed.TheVariants as owing
-use Rattle.first_run.specs.DataTold.{IsWritten, data-told, data-volume}
-use Rattle.first_run.specs.Effects.{Changes, IsAfterCall, IsReplyOf}
+use Rattle.first_run.specs.DataTold.{IsPutAt, data-told, data-volume}
+use Rattle.first_run.specs.Effects.{Changes}
+use Rattle.call_effects.specs.Places.{IsAfterCall, IsReplyOf}
 use Rattle.first_run.proofs.InPlaceLaws.{in_place-files, in_place-writes}
 use Rattle.first_run.specs.Made.{IsReplied}
 use Rattle.first_run.specs.Owing.{IsKept}
-use Rattle.first_run.specs.Seats.{HasVolume, OnImages}
+use Rattle.first_run.specs.Seats.{HasVolume}
 use Rattle.first_run.proofs.ToldFacts.{told-both, told-fact}
 use Rattle.first_run.specs.laws.ToldLaws.{told-weaker}
 use Rattle.first_run.proofs.WrittenLaws.{write-reply}
@@ -49,13 +50,13 @@ in_place_done g before middle after f i d n block same is has there kept inside 
     (λ image h. own g before.counter f i d n image h.0 h.1.0 h.1.1 at un)
     (told-both (λ image. IsKept g before.counter image []) (λ image. (i + 1 < logical g image (Head f)) × (n ≡ logical g image (Pointer f i))) before.told kept
     (told-both (λ image. i + 1 < logical g image (Head f)) (λ image. n ≡ logical g image (Pointer f i)) before.told inside pointer)) in
-    let done : OnImages (IsWritten place block.0) before.told after.told = data-told place block.0 before after (subst (λ (s : State). after ≡ after_write place block.0 s) same is) in
+    let done : OnImages (IsPutAt place block.0) before.told after.told = data-told place block.0 before after (subst (λ (s : State). after ≡ after_write place block.0 s) same is) in
     record {
       plain = told-fact P (IsReplyOf g (Write f i block) Done) before.told
           (λ image h. write-reply g before.counter image f i block (record { readable = h.kept.readable; none = h.kept.none }) has.0 h.inside) was;
-      changes = told-weaker P (IsWritten place block.0) (Changes g (Write f i block) Done) before.told after.told
+      changes = told-weaker P (IsPutAt place block.0) (Changes g (Write f i block) Done) before.told after.told
           (λ old new h r. subst (Changes g (Write f i block) Done old) (sym r) (inl (in_place-writes g before.counter old f i d block.0 h.kept there h.names h.unmarked))) was done;
-      files = told-weaker P (IsWritten place block.0) (IsAfterCall g (Write f i block)) before.told after.told
+      files = told-weaker P (IsPutAt place block.0) (IsAfterCall g (Write f i block)) before.told after.told
           (λ old new h r. subst (IsAfterCall g (Write f i block) old) (sym r) (in_place-files g before.counter old f i d block h.kept has there h.names h.unmarked h.inside)) was done;
     }
 

@@ -11,18 +11,19 @@ use Rattle.vol_layout.specs.Regions.{total}
 use Rattle.image_view.specs.Images.{Image}
 use Rattle.image_view.specs.Numbers.{logical}
 use Rattle.shared_disk.specs.Calls.{after_register, next_key}
-use Rattle.shared_disk.specs.State.{State, Told}
+use Rattle.shared_disk.specs.State.{OnImages, State, Told}
 use Rattle.volume_tables.specs.declared.access.AccessNo.{AccessNo}
 use Rattle.first_run.proofs.AnyTold.{told-any}
 use Rattle.first_run.proofs.CutLaws.{cut-step}
-use Rattle.first_run.specs.Effects.{Becomes, KeepsFiles, blocks_of}
+use Rattle.first_run.specs.Effects.{Becomes, blocks_of}
+use Rattle.call_effects.specs.Places.{KeepsFiles}
 use Rattle.first_run.specs.Halts.{IsPaid, IsRefusedFor}
 use Rattle.first_run.specs.Owing.{AreOwed, IsKept, edits_owed}
 use Rattle.first_run.proofs.RefusedLaws.{refused-since}
 use Rattle.first_run.proofs.RegisterLaws.{served-registered, volume-registered}
 use Rattle.first_run.proofs.SameFiles.{same-files}
 use Rattle.first_run.proofs.SeatLaws.{counter-kept, length-kept, served-kept}
-use Rattle.first_run.specs.Seats.{ChangesContent, HasVolume, IsBetween, OnImages, run_state}
+use Rattle.first_run.specs.Seats.{ChangesContent, HasVolume, IsBetween, run_state}
 use Rattle.first_run.specs.Steps.{EndsIn, IfCut, IsCutAfter, IsCutOf, IsJoined, Step}
 use Rattle.first_run.specs.laws.ToldLaws.{told-after, told-weaker}
 use Rattle.first_run.specs.declared.seat.Owed.{Owed}

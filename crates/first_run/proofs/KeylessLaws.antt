@@ -10,12 +10,12 @@ use Rattle.vol_base.specs.declared.command.Command.{Command}
 use Rattle.vol_base.specs.declared.command.Command.TheVariants as commands
 use Rattle.vol_base.specs.declared.plain.PlainReply.{PlainReply}
 use Rattle.vol_layout.specs.declared.geometry.Geometry.{Geometry}
-use Rattle.shared_disk.specs.State.{State, Told}
+use Rattle.shared_disk.specs.State.{OnImages, State, Told}
 use Rattle.shared_disk.specs.declared.answers.DiskNo.{DiskNo}
-use Rattle.shared_disk.specs.declared.answers.DiskNo.TheVariants as refusals
+use Rattle.shared_disk.specs.declared.answers.DiskNo.TheVariants as disk_refusals
 use Rattle.first_run.proofs.AfterLaws.{after-same, kept-after, told-kept}
 use Rattle.first_run.specs.Keyless.{IsKeyless}
-use Rattle.first_run.specs.Seats.{IsBetween, OnImages, run_state}
+use Rattle.first_run.specs.Seats.{IsBetween, run_state}
 use Rattle.first_run.specs.Steps.{EndsIn, IsJoined, Step}
 use Rattle.first_run.specs.laws.ToldLaws.{told-none}
 use Rattle.first_run.specs.declared.seat.Owed.{Owed}
@@ -37,19 +37,19 @@ failed_step g owed before after f0 f1 placed seat same later rose out none = rec
 }
 
 pub keyless-step : (g : Geometry) (owed : Owed) (before after : State) (f0 f1 : ℕ) (r : Result Key DiskNo) (e : DiskNo) (answer : Answer) (placed : Option PlainReply) (seat : Seat) → r ≡ Err e
-    → after ≡ before → f0 ≤ f1 → ((r ≡ Err refusals.NoKeys) ↔ (before.counter ≡ 2 ^ 59 - 1)) → (r ≡ Err refusals.Failed → Rose f0 f1) → r ≢ Err refusals.Fenced
+    → after ≡ before → f0 ≤ f1 → ((r ≡ Err disk_refusals.NoKeys) ↔ (before.counter ≡ 2 ^ 59 - 1)) → (r ≡ Err disk_refusals.Failed → Rose f0 f1) → r ≢ Err disk_refusals.Fenced
     → IsKeyless e answer → seat ≡ seats.Out owed → placed ≡ None → Step g commands.Join answer placed (run_state before f0 (seats.Out owed)) (run_state after f1 seat)
-keyless-step g owed before after f0 f1 r refusals.NoKeys answer placed seat is same later keys failed fenced answered out none =
+keyless-step g owed before after f0 f1 r disk_refusals.NoKeys answer placed seat is same later keys failed fenced answered out none =
     subst (λ (a : Answer). Step g commands.Join a placed (run_state before f0 (seats.Out owed)) (run_state after f1 seat)) (sym answered)
     (record {
       says = (refl, none, λ joined. joined, keys.0 is, record { device = same; seat = out });
       later = later;
     })
-keyless-step g owed before after f0 f1 r refusals.Failed answer placed seat is same later keys failed fenced answered out none =
+keyless-step g owed before after f0 f1 r disk_refusals.Failed answer placed seat is same later keys failed fenced answered out none =
     subst (λ (a : Answer). Step g commands.Join a placed (run_state before f0 (seats.Out owed)) (run_state after f1 seat)) (sym answered)
     (failed_step g owed before after f0 f1 placed seat same later (failed is) out none)
-keyless-step g owed before after f0 f1 r refusals.Fenced answer placed seat is same later keys failed fenced answered out none = absurd (fenced is)
-keyless-step g owed before after f0 f1 r refusals.NoMemory answer placed seat is same later keys failed fenced answered out none = absurd answered
+keyless-step g owed before after f0 f1 r disk_refusals.Fenced answer placed seat is same later keys failed fenced answered out none = absurd (fenced is)
+keyless-step g owed before after f0 f1 r disk_refusals.NoMemory answer placed seat is same later keys failed fenced answered out none = absurd answered
 
 -- what holds between two lines holds where nothing changed
 pub between-same : (g : Geometry) (before after : State) (f0 f1 : ℕ) (old new : Seat) → IsBetween g (run_state before f0 old) → after ≡ before → new ≡ old → IsBetween g (run_state after f1 new)

@@ -22,7 +22,7 @@ use Rattle.image_view.specs.Images.{Image}
 use Rattle.histories.specs.LineCalls.{calls_of}
 use Rattle.histories.specs.Lines.{IsLine}
 use Rattle.first_run.proofs.BuiltLaws.{built-call, built-file}
-use Rattle.first_run.specs.Effects.{IsAfterCall, IsReplyOf, KeepsFiles}
+use Rattle.call_effects.specs.Places.{IsAfterCall, IsReplyOf, KeepsFiles}
 use Rattle.first_run.specs.Runs.{IsBuilt, LeadsFiles, entry_at}
 use Rattle.first_run.specs.Steps.{IsCutAfter}
 

@@ -10,7 +10,6 @@ pub mod CreateLaws
 pub mod CreateTold
 pub mod CutLaws
 pub mod EmptiedTold
-pub mod FileShows
 pub mod FreeRefused
 pub mod FreshFiles
 pub mod FreshLaws
@@ -40,7 +39,6 @@ pub mod RegisterLaws
 pub mod RemainLaws
 pub mod RemainsTold
 pub mod RepliedLaws
-pub mod ReplyLaws
 pub mod Results
 pub mod RunLaws
 pub mod RunSteps
@@ -55,6 +53,5 @@ pub mod StepsLaws
 pub mod StoredLaws
 pub mod TellsLaws
 pub mod ToldFacts
-pub mod TwoUses
 pub mod UncutLaws
 pub mod WrittenLaws

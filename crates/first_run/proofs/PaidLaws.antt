@@ -76,10 +76,3 @@ paid-trans g counter old middle new owed some left first next = record {
     others = λ kind there alone. next.same.others kind there alone ∙ first.same.others kind there alone;
   };
 }
-
--- nothing was paid
-pub paid-none : (g : Geometry) (counter : ℕ) (image : Image) (owed : List Edit) → IsPaid g counter owed owed image image
-paid-none g counter image owed = record {
-  kept = λ kept. kept;
-  same = record { numbers = λ x there free. refl; blocks = λ d there. refl; others = λ kind there alone. refl };
-}

@@ -5,7 +5,7 @@ use Rattle.vol_layout.specs.declared.geometry.Geometry.{Geometry}
 use Rattle.vol_layout.specs.declared.field.Field.TheVariants.{Count}
 use Rattle.vol_layout.specs.declared.field.Edit.{Edit}
 use Rattle.vol_layout.specs.Fields.{HasField, IsInRange}
-use Rattle.shared_disk.specs.State.{State, Told}
+use Rattle.shared_disk.specs.State.{OnImages, State, Told}
 use Rattle.image_view.specs.Balances.{edit}
 use Rattle.first_run.proofs.OwedParts.{owed-first, owed-one, owed-second, owes-one}
 use Rattle.first_run.specs.declared.halt.Halt.{Halt}
@@ -16,7 +16,7 @@ use Rattle.first_run.specs.Halts.{IsPaid, IsStored}
 use Rattle.first_run.specs.Owing.{AreOwed, edit_of, edits_owed}
 use Rattle.first_run.proofs.PaidLaws.{paid-one, paid-trans}
 use Rattle.first_run.proofs.SeatLaws.{counter-kept}
-use Rattle.first_run.specs.Seats.{ChangesContent, OnImages}
+use Rattle.first_run.specs.Seats.{ChangesContent}
 
 -- the last count in the list is written
 pub one_paid : (g : Geometry) (counter : ℕ) (old new : Option Told) (d n : ℕ) (left : List Edit) → HasField g (Count d) → IsInRange g (Count d) n

@@ -15,11 +15,11 @@ use Rattle.image_view.specs.Images.{Image, block_at}
 use Rattle.image_view.specs.Numbers.{logical}
 use Rattle.image_view.specs.Pointers.{named}
 use Rattle.first_run.specs.declared.seat.Owed.TheVariants as owing
-use Rattle.first_run.proofs.FileShows.{content-hole, content-named}
+use Rattle.call_effects.specs.laws.LookLaws.{IsLook, look-read}
+use Rattle.call_effects.specs.laws.PointerLaws.{content-hole, content-named}
 use Rattle.first_run.specs.Made.{IsReplied}
 use Rattle.first_run.specs.Owing.{IsKept}
 use Rattle.first_run.proofs.RepliedLaws.{replied-left}
-use Rattle.first_run.proofs.ReplyLaws.{LeavesFile, leaves-read}
 use Rattle.first_run.specs.Seats.{HasVolume}
 use Rattle.first_run.proofs.ToldFacts.{told-both, told-fact}
 
@@ -38,8 +38,8 @@ read_shown g before after f i block same below kept inside is =
     let Q : Image → Type 0 = λ image. block ≡ shown g image f i in
     let was : IfSome before.told (λ t. P t.image) = told-both (λ image. IsKept g before.counter image []) (λ image. i + 1 < logical g image (Head f)) before.told kept inside in
     replied-left g (Read f i) (Holds block) before after same (λ image. refl)
-    (told-fact (λ image. P image × Q image) (LeavesFile g (Read f i) (Holds block)) before.told
-    (λ image h. leaves-read g image f i (logical g image (Head f) - 1) block h.0.0.readable.superblock below (omega (arith, h.0.1)) (omega (arith, h.0.1)) h.1)
+    (told-fact (λ image. P image × Q image) (IsLook g (Read f i) (Holds block)) before.told
+    (λ image h. look-read g image f i (logical g image (Head f) - 1) block h.0.0.readable.superblock below (omega (arith, h.0.1)) (omega (arith, h.0.1)) h.1)
     (told-both P Q before.told was is))
 
 -- a hole reads as zeros

@@ -11,7 +11,7 @@ use Rattle.vol_layout.specs.Edits.{same_field, touches}
 use Rattle.vol_layout.specs.Fields.{HasField, IsPointer}
 use Rattle.image_view.specs.Balances.{edit, share_of}
 use Rattle.image_view.specs.laws.BalanceLaws.{balances-drop, share_none}
-use Rattle.image_view.specs.laws.FileLaws.{used_once}
+use Rattle.image_view.specs.laws.FileLaws.{used_once, named_below}
 use Rattle.image_view.specs.Images.{Image}
 use Rattle.image_view.specs.Numbers.{logical}
 use Rattle.image_view.specs.Pointers.{named}
@@ -22,7 +22,7 @@ use Rattle.first_run.specs.Effects.{Becomes, blocks_of, cleared, given}
 use Rattle.first_run.specs.Halts.{IsStored}
 use Rattle.first_run.proofs.OwedLaws.{pointer-owed}
 use Rattle.first_run.specs.Owing.{IsKept}
-use Rattle.first_run.proofs.SameFiles.{ShowsSame, named-below, number_in_range}
+use Rattle.first_run.proofs.SameFiles.{ShowsSame, number_in_range}
 use Rattle.first_run.specs.laws.StoreLaws.{stored-becomes}
 
 -- a hole is a pointer
@@ -48,7 +48,7 @@ pub emptied-kept : (g : Geometry) (counter : ℕ) (old new : Image) (f i d : ℕ
     → IsStored g counter (edit (Pointer f i) 0 ∷ []) old new → IsKept g counter old [] → IsKept g counter new (edit (Count d) (logical g old (Count d) - 1) ∷ [])
 emptied-kept g counter old new f i d has names stored kept =
     let range = number_in_range g counter old (Pointer f i) (record { readable = kept.readable; none = kept.none }) has in
-    let count = kept.counted.counts d (named-below g (logical g old (Pointer f i)) d range names) in
+    let count = kept.counted.counts d (named_below g (logical g old (Pointer f i)) d range names) in
     let used = used_once g old f i d has names in
     pointer-owed g counter old new f i 0 (edit (Count d) (logical g old (Count d) - 1) ∷ []) has (hole_in_range g) stored (tt, tt)
     (balances-drop g (λ x. logical g old x) f i 0 d names refl (omega (arith, count, used))) (hole_marks g old f i) kept

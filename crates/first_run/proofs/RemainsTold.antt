@@ -4,15 +4,15 @@ use Rattle.std.specs.Prelude.{IfSome}
 use Rattle.vol_layout.specs.declared.geometry.Geometry.{Geometry}
 use Rattle.vol_layout.specs.declared.field.Field.TheVariants.{Head}
 use Rattle.vol_layout.specs.declared.field.Edit.{Edit}
-use Rattle.shared_disk.specs.State.{State, Told}
+use Rattle.shared_disk.specs.State.{OnImages, State, Told}
 use Rattle.image_view.specs.Images.{Image}
 use Rattle.image_view.specs.Numbers.{logical}
 use Rattle.first_run.specs.Effects.{Becomes, blocks_of, cleared}
-use Rattle.first_run.specs.Halts.{IsReadableNow, IsStopped}
+use Rattle.first_run.specs.Halts.{IsReadableNow, IsPartlyCleared}
 use Rattle.first_run.specs.Owing.{IsKept}
 use Rattle.first_run.proofs.RemainLaws.{past-shows}
 use Rattle.first_run.proofs.SameFiles.{shown-files}
-use Rattle.first_run.specs.Seats.{ChangesContent, HasVolume, OnImages}
+use Rattle.first_run.specs.Seats.{ChangesContent, HasVolume}
 use Rattle.first_run.specs.laws.ToldLaws.{told-same}
 use Rattle.first_run.proofs.SeatLaws.{counter-kept}
 use Rattle.first_run.proofs.TellsLaws.{tells-kept}
@@ -34,7 +34,7 @@ told_past g counter f from (Some t) now past = record { now = now; past = past }
 
 -- a halt later on leaves the volume right, and no file changed
 pub later_stopped : (g : Geometry) (counter f from at : ℕ) (owed : List Edit) (first old new : Option Told) → IfSome first (λ t. IsPast g counter f from t.image) → OnImages (Clears g f from at) first old
-    → OnImages (IsStopped g counter owed) old new → OnImages (IsStopped g counter owed) first new
+    → OnImages (IsPartlyCleared g counter owed) old new → OnImages (IsPartlyCleared g counter owed) first new
 later_stopped g counter f from at owed None None None past was stopped = tt
 later_stopped g counter f from at owed None None (Some c) past was stopped = absurd stopped
 later_stopped g counter f from at owed None (Some b) new past was stopped = absurd was
@@ -50,15 +50,15 @@ first_past g f from s volume past = told_past g s.counter f from s.told (tells-k
 
 -- a halt between two pointers
 pub stopped_between : (g : Geometry) (f from at : ℕ) (s m : State) → HasVolume g s Nothing → IfSome s.told (λ t. logical g t.image (Head f) ≤ from + 1) → OnImages (Clears g f from at) s.told m.told
-    → ChangesContent s m → HasVolume g m Nothing → OnImages (IsStopped g s.counter []) s.told m.told
+    → ChangesContent s m → HasVolume g m Nothing → OnImages (IsPartlyCleared g s.counter []) s.told m.told
 stopped_between g f from at s m volume past was only kept =
     let kept' = subst (λ (counter : ℕ). IfSome m.told (λ t. IsKept g counter t.image [])) (counter-kept s m only) kept in
-    let here = told-same (IsStopped g s.counter []) (λ image. IsKept g s.counter image []) m.told (λ image is. record { kept = is; files = λ h. refl }) kept' in
+    let here = told-same (IsPartlyCleared g s.counter []) (λ image. IsKept g s.counter image []) m.told (λ image is. record { kept = is; files = λ h. refl }) kept' in
     later_stopped g s.counter f from at [] s.told m.told m.told (first_past g f from s volume past) was here
 
 -- a halt at a pointer
 pub stopped_later : (g : Geometry) (f from at : ℕ) (owed : List Edit) (s m e : State) → HasVolume g s Nothing → IfSome s.told (λ t. logical g t.image (Head f) ≤ from + 1) → OnImages (Clears g f from at) s.told m.told
-    → ChangesContent s m → OnImages (IsStopped g m.counter owed) m.told e.told → OnImages (IsStopped g s.counter owed) s.told e.told
+    → ChangesContent s m → OnImages (IsPartlyCleared g m.counter owed) m.told e.told → OnImages (IsPartlyCleared g s.counter owed) s.told e.told
 stopped_later g f from at owed s m e volume past was only stopped =
-    let stopped' = subst (λ (counter : ℕ). OnImages (IsStopped g counter owed) m.told e.told) (counter-kept s m only) stopped in
+    let stopped' = subst (λ (counter : ℕ). OnImages (IsPartlyCleared g counter owed) m.told e.told) (counter-kept s m only) stopped in
     later_stopped g s.counter f from at owed s.told m.told e.told (first_past g f from s volume past) was stopped'

@@ -10,7 +10,7 @@ use Rattle.vol_base.specs.declared.plain.PlainReply.{PlainReply}
 use Rattle.vol_layout.specs.declared.geometry.Geometry.{Geometry}
 use Rattle.plain_files.specs.declared.history.Placed.{Placed}
 use Rattle.workload.specs.declared.line.Line.{Line}
-use Rattle.shared_disk.specs.State.{Told}
+use Rattle.shared_disk.specs.State.{OnImages, Told}
 use Rattle.histories.specs.Fit.{Fits}
 use Rattle.histories.specs.laws.FitLaws.{Fits-begun}
 use Rattle.histories.specs.Lines.{IsLine}
@@ -21,7 +21,7 @@ use Rattle.first_run.proofs.LeadsLaws.{leads-begun, leads-more}
 use Rattle.first_run.proofs.LineFits.{StandBelow, entry-fits, line-fits, stand-more}
 use Rattle.first_run.specs.Runs.{IsBuilt, Leads, LeadsFiles, Steps, entry_at}
 use Rattle.first_run.proofs.SaysLaws.{says-file, says-none, says-own, says-plain}
-use Rattle.first_run.specs.Seats.{OnImages, RunState}
+use Rattle.first_run.specs.Seats.{RunState}
 use Rattle.first_run.specs.Steps.{EndsIn, IsCutAfter, Step}
 use Rattle.first_run.proofs.StepsLaws.{steps-push}
 use Rattle.first_run.specs.laws.ToldLaws.{told-none, told-trans, told-weaker}

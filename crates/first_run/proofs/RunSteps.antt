@@ -11,13 +11,13 @@ use Rattle.vol_layout.specs.Ranges.{IsGeometry}
 use Rattle.vol_layout.specs.Regions.{total}
 use Rattle.plain_files.specs.declared.history.Placed.{Placed}
 use Rattle.workload.specs.declared.line.Line.{Line}
-use Rattle.shared_disk.specs.State.{State, Told}
+use Rattle.shared_disk.specs.State.{OnImages, State, Told}
 use Rattle.histories.specs.Phases.{ArePhased}
 use Rattle.first_run.specs.laws.KeptLaws.{kept-begun}
 use Rattle.first_run.specs.Owing.{IsKept}
 use Rattle.first_run.proofs.RunLaws.{AreRun, run-leads, run-more, run-stopped}
 use Rattle.first_run.specs.Runs.{IsBuiltLine, IsUnheld, Leads, entry_at}
-use Rattle.first_run.specs.Seats.{IsBetween, OnImages, RunState, run_state}
+use Rattle.first_run.specs.Seats.{IsBetween, RunState, run_state}
 use Rattle.first_run.specs.Steps.{EndsIn, Step}
 use Rattle.first_run.specs.declared.seat.Owed.TheVariants as owing
 use Rattle.first_run.specs.declared.seat.Seat.{Seat}

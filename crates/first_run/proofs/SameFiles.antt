@@ -1,23 +1,22 @@
 -- Files that stay where heads, pointers and data blocks stay, whatever the counts are.
-use Rattle.std.proofs.Common.{◌≡◌, ◌<◌, ◌+◌, ◌-◌, ◌%◌, ◌^◌, ◌==◌, ℕ, Some, None, refl, sym, ap, ◌∙◌, subst, inl, inr, arith}
-use Rattle.std.proofs.lemmas.Bool.{cases_Bool, eqb-false}
+use Rattle.std.proofs.Common.{◌≡◌, ◌<◌, ◌≤◌, ◌+◌, ℕ, refl, sym, ap, ◌∙◌, subst, arith}
 use Rattle.vol_layout.specs.declared.geometry.Geometry.{Geometry}
 use Rattle.vol_layout.specs.declared.kind.Kind.TheVariants as kinds
 use Rattle.vol_layout.specs.declared.field.Field.{Field}
 use Rattle.vol_layout.specs.declared.field.Field.TheVariants.{Head, Pointer}
-use Rattle.vol_layout.specs.Fields.{HasField, IsInRange, IsPointer, table_of}
-use Rattle.vol_layout.specs.Ranges.{data_blocks}
+use Rattle.vol_layout.specs.Fields.{HasField, IsInRange, table_of}
+use Rattle.vol_layout.specs.Ranges.{limit}
 use Rattle.image_view.specs.Files.{content, volume_file}
-use Rattle.image_view.specs.laws.FileLaws.{shown}
+use Rattle.image_view.specs.laws.FileLaws.{content_kept, named_below, shown}
 use Rattle.image_view.specs.laws.FrameLaws.{HasTable-table_of}
 use Rattle.image_view.specs.laws.GeometryLaws.{image_file_kept}
 use Rattle.image_view.specs.Images.{Image}
 use Rattle.image_view.specs.Numbers.{field, logical}
-use Rattle.image_view.specs.Pointers.{named}
 use Rattle.volume_faults.specs.Sites.Site.{Block as BlockSite}
 use Rattle.first_run.proofs.CallLaws.{first_block-kept}
-use Rattle.first_run.specs.Effects.{Becomes, KeepsFiles, blocks_of}
-use Rattle.first_run.proofs.FileShows.{content-kept, shows-same}
+use Rattle.first_run.specs.Effects.{Becomes, blocks_of}
+use Rattle.call_effects.specs.Places.{KeepsFiles}
+use Rattle.call_effects.specs.laws.StayLaws.{volume_file-same}
 use Rattle.first_run.specs.Halts.{IsReadableNow}
 use Rattle.first_run.specs.laws.KeptLaws.{logical-field}
 
@@ -27,18 +26,6 @@ unfolding field
 number_in_range g counter image x now has =
     subst (IsInRange g x) (sym (logical-field g image x now.none))
     ((now.readable.blocks (BlockSite (kinds.Table (table_of x))) (refl, (HasTable-table_of g x has, tt))).1 x has refl)
-
--- a data number that a pointer in range names is one of the volume's
-pub named-below : (g : Geometry) (n d : ℕ) → IsPointer g n → named n ≡ Some d → d < data_blocks g
-named-below g n d is e =
-    elim (cases_Bool (n % 2 ^ 31 == 0)) [
-      | inl none ↦ let e' : named n ≡ None = rw none refl in absurd cc
-      | inr some ↦
-          let e' : named n ≡ Some (n % 2 ^ 31 - 1) = rw some refl in
-          let d_is : d ≡ n % 2 ^ 31 - 1 = cc in
-          let more = eqb-false (n % 2 ^ 31) 0 some in
-          omega (arith, is.names)
-    ]
 
 -- what files show stays: heads, and the pointers below a file's length
 pub record ShowsSame (g : Geometry) (image : Image) (numbers : Field → ℕ) : Type 0 where
@@ -50,14 +37,17 @@ same_shown : (g : Geometry) (counter : ℕ) (old new : Image) (numbers : Field �
     → numbers (Pointer f i) ≡ logical g old (Pointer f i) → shown g new f i ≡ shown g old f i
 same_shown g counter old new numbers f i now becomes has same =
     ap (content g new) (becomes.numbers (Pointer f i) has tt ∙ same)
-    ∙ content-kept g old new (logical g old (Pointer f i))
-    (λ d is. becomes.blocks d (named-below g (logical g old (Pointer f i)) d (number_in_range g counter old (Pointer f i) now has) is))
+    ∙ content_kept g old new (logical g old (Pointer f i))
+    (λ d is. becomes.blocks d (named_below g (logical g old (Pointer f i)) d (number_in_range g counter old (Pointer f i) now has) is))
 
 same_file : (g : Geometry) (counter : ℕ) (old new : Image) (numbers : Field → ℕ) (f : ℕ) → IsReadableNow g counter old → Becomes g old new numbers (blocks_of g old) → ShowsSame g old numbers → f < g.files
     → volume_file g new f ≡ volume_file g old f
 same_file g counter old new numbers f now becomes same has =
-    shows-same g old new f (logical g old (Head f)) (becomes.numbers (Head f) has tt ∙ same.heads f has) refl (number_in_range g counter old (Head f) now has)
-    (λ k lt shows. same_shown g counter old new numbers f k now becomes (has, lt) (same.pointers f k (has, lt) shows))
+    let range : logical g old (Head f) ≤ limit g + 1 = number_in_range g counter old (Head f) now has in
+    volume_file-same g old new f (logical g old (Head f)) (becomes.numbers (Head f) has tt ∙ same.heads f has) refl
+    (λ k inside.
+    let there : HasField g (Pointer f k) = (has, omega (arith, range, inside)) in
+    same_shown g counter old new numbers f k now becomes there (same.pointers f k there inside))
 
 -- where what files show stays, with the data blocks and the superblock, all files stay
 pub shown-files : (g : Geometry) (counter : ℕ) (old new : Image) (numbers : Field → ℕ) → IsReadableNow g counter old → Becomes g old new numbers (blocks_of g old) → ShowsSame g old numbers → KeepsFiles old new

@@ -18,18 +18,20 @@ use Rattle.vol_layout.specs.Superblock.{SpellsGeometry}
 use Rattle.plain_files.specs.Block.{zero_block}
 use Rattle.plain_files.specs.Calls.{outcome, sized}
 use Rattle.image_view.specs.Files.{content}
-use Rattle.image_view.specs.laws.FileLaws.{shown, volume_file_sized}
+use Rattle.image_view.specs.laws.FileLaws.{shown, volume_file_sized, content_kept, named_below}
 use Rattle.image_view.specs.Images.{Image, first_block}
 use Rattle.image_view.specs.Numbers.{logical}
 use Rattle.first_run.proofs.BecomesLaws.{becomes-as}
-use Rattle.first_run.proofs.CallLaws.{after-call, file-there, first_block-kept}
-use Rattle.first_run.specs.Effects.{Becomes, Changes, IsAfterCall, IsReplyOf, blocks_of, cleared, given}
-use Rattle.first_run.proofs.FileShows.{content-hole, content-kept}
+use Rattle.first_run.proofs.CallLaws.{after-call, first_block-kept}
+use Rattle.call_effects.specs.Places.{IsAfterCall, IsReplyOf}
+use Rattle.call_effects.specs.laws.PlaceLaws.{file-there}
+use Rattle.call_effects.specs.laws.PointerLaws.{content-hole}
+use Rattle.first_run.specs.Effects.{Becomes, Changes, blocks_of, cleared, given}
 use Rattle.first_run.proofs.GivenLaws.{given-other, given-same}
 use Rattle.first_run.specs.Halts.{IsReadableNow}
 use Rattle.first_run.proofs.OtherFiles.{Spares, spared-file}
 use Rattle.first_run.specs.Owing.{IsKept}
-use Rattle.first_run.proofs.SameFiles.{named-below, number_in_range}
+use Rattle.first_run.proofs.SameFiles.{number_in_range}
 
 -- the numbers of a file of n blocks that gets m blocks
 abbrev pub resized : ℕ → ℕ → ℕ → (Field → ℕ) → Field → ℕ
@@ -62,8 +64,8 @@ resized_shown : (g : Geometry) (counter : ℕ) (old new : Image) (f n m k : ℕ)
     → shown g new f k ≡ shown g old f k
 resized_shown g counter old new f n m k now becomes has lt =
     ap (content g new) (becomes.numbers (Pointer f k) has tt ∙ resized-keeps f n m f k (λ x. logical g old x) (λ e. lt))
-    ∙ content-kept g old new (logical g old (Pointer f k))
-    (λ d is. becomes.blocks d (named-below g (logical g old (Pointer f k)) d (number_in_range g counter old (Pointer f k) now has) is))
+    ∙ content_kept g old new (logical g old (Pointer f k))
+    (λ d is. becomes.blocks d (named_below g (logical g old (Pointer f k)) d (number_in_range g counter old (Pointer f k) now has) is))
 
 -- and those past it are zeros
 resized_zeros : (g : Geometry) (old new : Image) (f n m k : ℕ) → Becomes g old new (resized f n m (λ x. logical g old x)) (blocks_of g old) → HasField g (Pointer f k) → n ≤ k → k < m → shown g new f k ≡ zero_block

@@ -6,19 +6,20 @@ use Rattle.vol_base.specs.declared.plain.PlainReply.TheVariants.{Done}
 use Rattle.vol_layout.specs.declared.geometry.Geometry.{Geometry}
 use Rattle.vol_layout.specs.declared.field.Field.TheVariants.{Head}
 use Rattle.vol_layout.specs.Ranges.{limit}
-use Rattle.shared_disk.specs.State.{State}
+use Rattle.shared_disk.specs.State.{OnImages, State}
 use Rattle.image_view.specs.Balances.{edit}
 use Rattle.image_view.specs.Images.{Image}
 use Rattle.image_view.specs.Numbers.{logical}
 use Rattle.first_run.specs.declared.seat.Owed.TheVariants as owing
-use Rattle.first_run.specs.Effects.{Becomes, Changes, IsAfterCall, IsReplyOf, blocks_of, cleared}
+use Rattle.first_run.specs.Effects.{Becomes, Changes, blocks_of, cleared}
+use Rattle.call_effects.specs.Places.{IsAfterCall, IsReplyOf}
 use Rattle.first_run.specs.Halts.{IsHalted, IsStored}
 use Rattle.first_run.specs.Made.{IsReplied}
 use Rattle.first_run.specs.Owing.{IsKept}
 use Rattle.first_run.proofs.RemainLaws.{past-shows}
 use Rattle.first_run.proofs.SameFiles.{shown-files}
 use Rattle.first_run.proofs.SeatLaws.{counter-kept}
-use Rattle.first_run.specs.Seats.{ChangesContent, HasVolume, OnImages}
+use Rattle.first_run.specs.Seats.{ChangesContent, HasVolume}
 use Rattle.first_run.proofs.SizeLaws.{resized, resized-becomes, resized-changes, resized-files, resized-kept, size-reply}
 use Rattle.first_run.specs.laws.StoreLaws.{head-kept, stored-becomes}
 use Rattle.first_run.proofs.ToldFacts.{told-both, told-fact, told-since, told-upon}

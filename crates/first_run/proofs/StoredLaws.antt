@@ -1,5 +1,5 @@
 -- The number that is read in a table, and what a written table leaves.
-use Rattle.std.proofs.Common.{◌≡◌, ◌≢◌, ◌<◌, ◌^◌, ℕ, [], ◌∷◌, Option, Some, None, Result, Ok, Err, refl, sym, ap, ◌∙◌, subst}
+use Rattle.std.proofs.Common.{◌≡◌, ◌<◌, ◌^◌, ℕ, [], ◌∷◌, Option, Some, None, Result, Ok, Err, refl, sym, ap, ◌∙◌, subst}
 use Rattle.std.specs.Prelude.{IfSome, OnOk, option_map}
 use Rattle.vol_base.specs.Bytes.{IsBlock}
 use Rattle.vol_base.specs.Faults.{Rose}
@@ -12,7 +12,7 @@ use Rattle.vol_layout.specs.Fields.{IsInRange, table_of}
 use Rattle.vol_layout.specs.Places.{place_of}
 use Rattle.vol_layout.specs.Ranges.{HasTable}
 use Rattle.shared_disk.specs.Calls.{after_write, told_after}
-use Rattle.shared_disk.specs.State.{State, Told}
+use Rattle.shared_disk.specs.State.{OnImages, State, Told}
 use Rattle.image_view.specs.Balances.{edit}
 use Rattle.image_view.specs.laws.FrameLaws.{write_only}
 use Rattle.image_view.specs.Numbers.{logical}
@@ -23,7 +23,6 @@ use Rattle.volume_tables.specs.Tables.{IsPackingOf, IsSpelledTable, IsTableOf, T
 use Rattle.volume_tables.specs.laws.WriteLaws.{IsEdited-with_table, IsReadable-with_table, readable_table, standing-with_table}
 use Rattle.first_run.specs.Halts.{IsReadableNow, IsRefusedFor, IsStored}
 use Rattle.first_run.specs.laws.KeptLaws.{logical-field}
-use Rattle.first_run.specs.Seats.{OnImages}
 
 -- the number of a field in the table that was read is its logical number
 pub number_read : (g : Geometry) (counter : ℕ) (told : Option Told) (x : Field) (p : Packing) (n : ℕ) → n ≡ number_in p x → IfSome told (λ t. IsTableOf g t.image (table_of x) p)
@@ -43,13 +42,6 @@ refused_read g counter told before now t r Failed is has readable failed place b
 refused_read g counter None before now t r (Bad p) is has readable failed place bad = (refl, (t, has, place p is))
 refused_read g counter (Some s) before now t r (Bad p) is has readable failed place bad = absurd (bad p is (readable_table g counter s.image t readable.readable has))
 refused_read g counter told before now t r NoMemory is has readable failed place bad = tt
-
--- why a table was not written
-pub refused_write : {T : Type 0} (g : Geometry) (told : Option Told) (before now : ℕ) (r : Result T AccessNo) (e : AccessNo) → r ≡ Err e
-    → (r ≡ Err Failed → Rose before now) → ((place : ℕ) → r ≢ Err (Bad place)) → IsRefusedFor g told before now e
-refused_write g told before now r Failed is failed bad = failed is
-refused_write g told before now r (Bad p) is failed bad = absurd (bad p is)
-refused_write g told before now r NoMemory is failed bad = tt
 
 -- what the write of a table with another number of one field leaves
 pub number_stored : (g : Geometry) (counter : ℕ) (told : Option Told) (t : Table) (x : Field) (p q : Packing) (n : ℕ) → table_of x ≡ t → HasTable g t → n < 2 ^ 32 → IsInRange g x n

@@ -2,8 +2,7 @@
 use Rattle.std.proofs.Common.{◌≡◌, Option, Some, None, subst}
 use Rattle.std.specs.Prelude.{IfSome}
 use Rattle.image_view.specs.Images.{Image}
-use Rattle.shared_disk.specs.State.{State, Told}
-use Rattle.first_run.specs.Seats.{OnImages}
+use Rattle.shared_disk.specs.State.{OnImages, State, Told}
 
 -- a fact that gives another one
 pub told-fact : (P Q : Image → Type 0) (told : Option Told) → ((image : Image) → P image → Q image) → IfSome told (λ t. P t.image) → IfSome told (λ t. Q t.image)

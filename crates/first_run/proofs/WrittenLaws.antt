@@ -14,15 +14,18 @@ use Rattle.vol_layout.specs.Fields.{HasField}
 use Rattle.vol_layout.specs.Ranges.{limit}
 use Rattle.plain_files.specs.Calls.{outcome}
 use Rattle.image_view.specs.Files.{content}
-use Rattle.image_view.specs.laws.FileLaws.{shown, volume_file_set}
+use Rattle.image_view.specs.laws.FileLaws.{shown, volume_file_set, content_kept, named_below}
 use Rattle.image_view.specs.Images.{Image}
 use Rattle.image_view.specs.Numbers.{logical}
 use Rattle.image_view.specs.Pointers.{named}
-use Rattle.first_run.proofs.CallLaws.{after-call, file-there, first_block-kept}
-use Rattle.first_run.specs.Effects.{Becomes, IsAfterCall, IsReplyOf, blocks_of, stored}
-use Rattle.first_run.proofs.FileShows.{content-kept, content-named, shows-same}
+use Rattle.first_run.proofs.CallLaws.{after-call, first_block-kept}
+use Rattle.call_effects.specs.Places.{IsAfterCall, IsReplyOf}
+use Rattle.call_effects.specs.laws.PlaceLaws.{file-there}
+use Rattle.call_effects.specs.laws.PointerLaws.{content-named}
+use Rattle.call_effects.specs.laws.StayLaws.{volume_file-same}
+use Rattle.first_run.specs.Effects.{Becomes, blocks_of, stored}
 use Rattle.first_run.specs.Halts.{IsReadableNow}
-use Rattle.first_run.proofs.SameFiles.{named-below, number_in_range}
+use Rattle.first_run.proofs.SameFiles.{number_in_range}
 
 -- the numbers that a write leaves: pointer i of file f names a data block that no other pointer names
 pub record WritesTo (g : Geometry) (image : Image) (f i d : ℕ) (numbers : Field → ℕ) : Type 0 where
@@ -36,9 +39,9 @@ others_shown : (g : Geometry) (counter : ℕ) (old new : Image) (f i d h j : ℕ
     → Becomes g old new numbers (stored d bytes (blocks_of g old)) → HasField g (Pointer h j) → Pointer h j ≢ Pointer f i → shown g new h j ≡ shown g old h j
 others_shown g counter old new f i d h j numbers bytes now writes becomes has other =
     ap (content g new) (becomes.numbers (Pointer h j) has tt ∙ writes.pointers h j has other)
-    ∙ content-kept g old new (logical g old (Pointer h j))
+    ∙ content_kept g old new (logical g old (Pointer h j))
     (λ e is.
-    becomes.blocks e (named-below g (logical g old (Pointer h j)) e (number_in_range g counter old (Pointer h j) now has) is)
+    becomes.blocks e (named_below g (logical g old (Pointer h j)) e (number_in_range g counter old (Pointer h j) now has) is)
     ∙ (let apart = ne_eqb d e (writes.alone h j e has other is) in rw apart refl))
 
 -- and that block is what was written
@@ -68,8 +71,9 @@ written-files g counter old new f i d numbers block now writes becomes has there
     ∙ ap (λ (b : Block). Some (set blocks i b)) (here_shown g old new f i d numbers block writes becomes has there)
     ∙ sym (set_outcome (limit g) f i n block blocks (length-map-range_with_len (shown g old f) 0 n) (omega (arith, inside))))
     (λ h below other.
-    shows-same g old new h (logical g old (Head h)) (becomes.numbers (Head h) below tt ∙ writes.heads h below) refl (number_in_range g counter old (Head h) now below)
-    (λ k lt shows. same h k (below, lt) (λ e. other cc)))
+    let range : logical g old (Head h) ≤ limit g + 1 = number_in_range g counter old (Head h) now below in
+    volume_file-same g old new h (logical g old (Head h)) (becomes.numbers (Head h) below tt ∙ writes.heads h below) refl
+    (λ k inside'. same h k (below, omega (arith, range, inside')) (λ e. other cc)))
 
 -- a write below a file's end is done
 pub write-reply : (g : Geometry) (counter : ℕ) (image : Image) (f i : ℕ) (block : Block) → IsReadableNow g counter image → f < g.files → i + 1 < logical g image (Head f) → IsReplyOf g (Write f i block) Done image

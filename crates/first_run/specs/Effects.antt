@@ -1,5 +1,5 @@
 -- What the commands do to the numbers and data blocks of a volume.
-use Rattle.std.specs.Prelude.{◌≡◌, ◌≢◌, ◌+◌, ◌-◌, ◌==◌, ◌&&◌, ◌⊎◌, ℕ, List, Some, if◌then◌else◌, nat_le, nat_lt}
+use Rattle.std.specs.Prelude.{◌≡◌, ◌+◌, ◌-◌, ◌==◌, ◌&&◌, ◌⊎◌, ℕ, List, Some, if◌then◌else◌, nat_le, nat_lt}
 use Rattle.vol_base.specs.declared.plain.PlainCall.{PlainCall}
 use Rattle.vol_base.specs.declared.plain.PlainCall.TheVariants as calls
 use Rattle.vol_base.specs.declared.plain.PlainReply.{PlainReply}
@@ -11,10 +11,8 @@ use Rattle.vol_layout.specs.declared.field.Field.{Field}
 use Rattle.vol_layout.specs.declared.field.Field.TheVariants.{Head, Pointer, Slot, Count}
 use Rattle.vol_layout.specs.Edits.{same_field}
 use Rattle.vol_layout.specs.Fields.{HasField}
-use Rattle.vol_layout.specs.Ranges.{HasKind, limit}
-use Rattle.plain_files.specs.Calls.{file_no, outcome}
+use Rattle.vol_layout.specs.Ranges.{HasKind}
 use Rattle.image_view.specs.Images.{Image, block_at}
-use Rattle.image_view.specs.Files.{image_file}
 use Rattle.image_view.specs.Numbers.{logical}
 use Rattle.image_view.specs.Pointers.{IsUnmarked}
 use Rattle.volume_tables.specs.Free.{IsLowestFree}
@@ -81,16 +79,3 @@ Changes g (calls.Size f n) replies.Done old new =
     Becomes g old new (given (Head f) (n + 1) (cleared f (logical g old (Head f) - 1) n (λ x. logical g old x))) (blocks_of g old)
 Changes g (calls.Write f i block) replies.Done old new = WritesInPlace g old new f i block.0 ⊎ WritesFresh g old new f i block.0
 Changes g call reply old new = new ≡ old
-
--- the files are those that the plain call leaves
-pub record IsAfterCall (g : Geometry) (call : PlainCall) (old new : Image) : Type 0 where
-  pub named : image_file new (file_no call) ≡ (outcome (limit g) call (image_file old (file_no call))).1
-  pub others : (f : ℕ) → f ≢ file_no call → image_file new f ≡ image_file old f
-
--- the reply is that of plain files
-abbrev pub IsReplyOf : Geometry → PlainCall → PlainReply → Image → Type 0
-IsReplyOf g call reply image = reply ≡ (outcome (limit g) call (image_file image (file_no call))).0
-
--- no file changed
-abbrev pub KeepsFiles : Image → Image → Type 0
-KeepsFiles old new = (f : ℕ) → image_file new f ≡ image_file old f

@@ -19,8 +19,9 @@ use Rattle.image_view.specs.Pointers.{named}
 use Rattle.image_view.specs.Records.{IsEdited}
 use Rattle.volume_faults.specs.Readable.{IsReadable}
 use Rattle.volume_tables.specs.declared.access.AccessNo.{AccessNo}
-use Rattle.volume_tables.specs.declared.access.AccessNo.TheVariants as refusals
-use Rattle.first_run.specs.Effects.{Becomes, IsAfterCall, IsReplyOf, KeepsFiles, blocks_of}
+use Rattle.volume_tables.specs.declared.access.AccessNo.TheVariants as access_refusals
+use Rattle.first_run.specs.Effects.{Becomes, blocks_of}
+use Rattle.call_effects.specs.Places.{IsAfterCall, IsReplyOf, KeepsFiles}
 use Rattle.first_run.specs.Owing.{IsKept}
 
 -- the place of a table block
@@ -29,17 +30,17 @@ IsTablePlace g place = (t : Table) × HasTable g t × (place ≡ place_of g (kin
 
 -- the device failed, or a block that it does not tell was no table in range; want of memory has no cause
 abbrev pub IsRefusedFor : Geometry → Option Told → ℕ → ℕ → AccessNo → Type 0
-IsRefusedFor g told before now refusals.Failed = Rose before now
-IsRefusedFor g told before now (refusals.Bad place) = (told ≡ None) × IsTablePlace g place
-IsRefusedFor g told before now refusals.NoMemory = Unit {0}
+IsRefusedFor g told before now access_refusals.Failed = Rose before now
+IsRefusedFor g told before now (access_refusals.Bad place) = (told ≡ None) × IsTablePlace g place
+IsRefusedFor g told before now access_refusals.NoMemory = Unit {0}
 
 -- where the device tells its content, no record stands on the volume, and its blocks are spellings in range
 pub record IsReadableNow (g : Geometry) (counter : ℕ) (image : Image) : Type 0 where
   pub readable : IsReadable g counter image
   pub none : standing g image ≡ []
 
-abbrev pub TellsVolume : Geometry → State → Type 0
-TellsVolume g device = IfSome device.told (λ told. IsReadableNow g device.counter told.image)
+abbrev pub TellsReadable : Geometry → State → Type 0
+TellsReadable g device = IfSome device.told (λ told. IsReadableNow g device.counter told.image)
 
 -- the edits were made in the tables, and no block but tables changed
 pub record IsStored (g : Geometry) (counter : ℕ) (es : List Edit) (old new : Image) : Type 0 where
@@ -65,7 +66,7 @@ pub record IsHalted (g : Geometry) (counter : ℕ) (call : PlainCall) (placed : 
 
 -- pointers past a file's end were made holes, up to some: with the counts that are owed the volume is right,
 -- and no file changed
-pub record IsStopped (g : Geometry) (counter : ℕ) (owed : List Edit) (old new : Image) : Type 0 where
+pub record IsPartlyCleared (g : Geometry) (counter : ℕ) (owed : List Edit) (old new : Image) : Type 0 where
   pub kept : IsKept g counter new owed
   pub files : KeepsFiles old new
 

@@ -7,13 +7,13 @@ use Rattle.vol_base.specs.declared.plain.PlainCall.TheVariants as calls
 use Rattle.vol_base.specs.declared.plain.PlainReply.{PlainReply}
 use Rattle.vol_layout.specs.declared.geometry.Geometry.{Geometry}
 use Rattle.vol_layout.specs.declared.field.Field.TheVariants.{Head, Pointer}
-use Rattle.shared_disk.specs.State.{State, Told}
+use Rattle.shared_disk.specs.State.{OnImages, State, Told}
 use Rattle.image_view.specs.Images.{Image}
 use Rattle.image_view.specs.Numbers.{logical}
 use Rattle.image_view.specs.Pointers.{IsUnmarked}
 use Rattle.volume_tables.specs.Free.{IsLowestFree}
-use Rattle.first_run.specs.Effects.{Changes, IsAfterCall, IsReplyOf}
-use Rattle.first_run.specs.Seats.{OnImages}
+use Rattle.first_run.specs.Effects.{Changes}
+use Rattle.call_effects.specs.Places.{IsAfterCall, IsReplyOf}
 
 -- the reply is that of plain files, the volume changed as the call says, and its files are those after it
 pub record IsReplied (g : Geometry) (call : PlainCall) (reply : PlainReply) (before after : State) : Type 0 where

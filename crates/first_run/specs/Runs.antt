@@ -12,11 +12,11 @@ use Rattle.plain_files.specs.Plain.{Plain}
 use Rattle.plain_files.specs.History.{IsLegal, state_after}
 use Rattle.workload.specs.declared.line.Line.{Line}
 use Rattle.image_view.specs.Files.{HasFiles}
-use Rattle.image_view.specs.HostKeys.{slot_key_at}
 use Rattle.image_view.specs.Images.{Image}
 use Rattle.image_view.specs.Valid.{IsValid}
 use Rattle.histories.specs.Fit.{Fits}
 use Rattle.histories.specs.LineCalls.{calls_of}
+use Rattle.volume_opening.specs.Slots.{AreIdle}
 use Rattle.first_run.specs.Seats.{RunState}
 use Rattle.first_run.specs.Steps.{Step}
 
@@ -37,7 +37,7 @@ pub record IsBuiltLine (g : Geometry) (line : Line) : Type 0 where
 -- a valid volume whose slots are all free, so that no record stands and no lock is held
 pub record IsUnheld (g : Geometry) (counter : ℕ) (image : Image) : Type 0 where
   pub valid : IsValid g counter image
-  pub slots : (h : ℕ) → h < g.hosts → slot_key_at g image h ≡ 0
+  pub slots : AreIdle g image g.hosts
 
 -- the entry of a line, if it stands in the history
 abbrev pub entry_at : ℕ → Option PlainReply → List Placed

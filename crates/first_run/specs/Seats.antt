@@ -55,10 +55,3 @@ ChangesContent old new = new ≡ record old { told = new.told }
 -- each registered key is so still
 abbrev pub KeepsKeys : State → State → Type 0
 KeepsKeys old new = (key : ℕ) → Contains old.keys key → Contains new.keys key
-
--- a relation of the images before and after; nothing is said where the device tells nothing
-abbrev pub OnImages : (Image → Image → Type 0) → Option Told → Option Told → Type 0
-OnImages R (Some old) (Some new) = R old.image new.image
-OnImages R (Some old) None = ⊥
-OnImages R None (Some new) = ⊥
-OnImages R None None = Unit {0}

@@ -13,17 +13,18 @@ use Rattle.vol_base.specs.declared.plain.PlainCall.{PlainCall}
 use Rattle.vol_base.specs.declared.plain.PlainReply.{PlainReply}
 use Rattle.vol_layout.specs.declared.geometry.Geometry.{Geometry}
 use Rattle.shared_disk.specs.Calls.{after_register, next_key}
-use Rattle.shared_disk.specs.State.{State}
+use Rattle.shared_disk.specs.State.{OnImages, State}
 use Rattle.image_view.specs.Images.{Image}
 use Rattle.image_view.specs.Numbers.{logical}
 use Rattle.volume_tables.specs.declared.access.AccessNo.{AccessNo}
-use Rattle.volume_tables.specs.declared.access.AccessNo.TheVariants as refusals
+use Rattle.volume_tables.specs.declared.access.AccessNo.TheVariants as access_refusals
 use Rattle.first_run.specs.declared.seat.Seat.{Seat}
 use Rattle.first_run.specs.declared.seat.Seat.TheVariants as seats
-use Rattle.first_run.specs.Effects.{Becomes, KeepsFiles, blocks_of}
+use Rattle.first_run.specs.Effects.{Becomes, blocks_of}
+use Rattle.call_effects.specs.Places.{KeepsFiles}
 use Rattle.first_run.specs.Halts.{IsHaltedAfter, IsTablePlace}
 use Rattle.first_run.specs.Made.{IsMade}
-use Rattle.first_run.specs.Seats.{ChangesContent, OnImages, RunState}
+use Rattle.first_run.specs.Seats.{ChangesContent, RunState}
 
 -- host 0 is joined
 abbrev pub IsJoined : Seat → Type 0
@@ -36,7 +37,7 @@ pub record Stays (before after : RunState) : Type 0 where
   pub seat : after.seat ≡ before.seat
 
 -- a joined host made its plain call and got this answer
-pub record IsAnswered (g : Geometry) (command : Command) (answer : Answer) (before after : RunState) : Type 0 where
+pub record IsCallAnswered (g : Geometry) (command : Command) (answer : Answer) (before after : RunState) : Type 0 where
   pub call : PlainCall
   pub is : plain_call_of command ≡ Some call
   pub joined : IsJoined before.seat
@@ -87,8 +88,8 @@ pub record IsCut (g : Geometry) (command : Command) (by : CutBy) (placed : Optio
 
 -- what an answer says. `placed` is the reply with which the line stands in the history, if it does.
 abbrev pub Says : Geometry → Command → Answer → Option PlainReply → RunState → RunState → Type 0
-Says g command (answers.Plain reply) placed before after = (placed ≡ Some reply) × IsAnswered g command (answers.Plain reply) before after
-Says g command answers.Full placed before after = (placed ≡ None) × IsAnswered g command answers.Full before after
+Says g command (answers.Plain reply) placed before after = (placed ≡ Some reply) × IsCallAnswered g command (answers.Plain reply) before after
+Says g command answers.Full placed before after = (placed ≡ None) × IsCallAnswered g command answers.Full before after
 Says g command (answers.Joined key) placed before after = (command ≡ commands.Join) × (placed ≡ None) × IsJoinedUnder g key before after
 Says g command answers.Up placed before after = (command ≡ commands.Join) × (placed ≡ None) × IsJoined before.seat × Stays before after
 Says g command answers.Down placed before after = (command ≢ commands.Join) × (placed ≡ None) × (IsJoined before.seat → ⊥) × Stays before after
@@ -114,9 +115,9 @@ IfCut answer P = ⊥
 
 -- what cuts a command that was refused a block
 abbrev pub IsCutOf : AccessNo → CutBy → Type 0
-IsCutOf refusals.Failed by = by ≡ cuts.Fault
-IsCutOf (refusals.Bad place) by = by ≡ cuts.Bad place
-IsCutOf refusals.NoMemory by = ⊥
+IsCutOf access_refusals.Failed by = by ≡ cuts.Fault
+IsCutOf (access_refusals.Bad place) by = by ≡ cuts.Bad place
+IsCutOf access_refusals.NoMemory by = ⊥
 
 -- where memory was refused inside a command, it did its plain call or left the files
 abbrev pub EndsIn : Geometry → Command → Image → Image → Type 0

@@ -6,9 +6,10 @@ ghost use Rattle.image_view.specs.Numbers.{logical};
 ghost use Rattle.image_view.specs.Pointers.{named};
 ghost use Rattle.volume_tables.specs.Tables.{IsPackingOf, number_in};
 ghost use Rattle.first_run.specs.Effects.{Becomes, blocks_of, cleared};
-ghost use Rattle.first_run.specs.Halts.{IsFirstRemain, IsRefusedFor, IsStopped, TellsVolume};
+ghost use Rattle.first_run.specs.Halts.{IsFirstRemain, IsRefusedFor, IsPartlyCleared, TellsReadable};
 ghost use Rattle.first_run.specs.Owing.{AreOwed, edits_owed};
-ghost use Rattle.first_run.specs.Seats.{ChangesContent, HasVolume, IsServed, OnImages};
+ghost use Rattle.shared_disk.specs.State.{OnImages};
+ghost use Rattle.first_run.specs.Seats.{ChangesContent, HasVolume, IsServed};
 
 use crate::halt::Halt;
 use crate::numbers::{load, pay, store};
@@ -36,7 +37,7 @@ pub fn clear_remains<D: Device>(
     requires past { IfSome (D.state disk.old).told (λ told. logical geometry.now told.image (Field.Head file) ≤ from + 1) }
     ensures done { OnOk result (OnImages (λ old new. Becomes geometry.now old new (cleared file from end (λ x. logical geometry.now old x)) (blocks_of geometry.now old)) (D.state disk.old).told (D.state disk.new).told) }
     ensures kept { OnOk result (HasVolume geometry.now (D.state disk.new) Owed.Nothing) }
-    ensures halted { IfErr result (λ halt. OnImages (IsStopped geometry.now (D.state disk.old).counter (edits_owed halt.owed)) (D.state disk.old).told (D.state disk.new).told) }
+    ensures halted { IfErr result (λ halt. OnImages (IsPartlyCleared geometry.now (D.state disk.old).counter (edits_owed halt.owed)) (D.state disk.old).told (D.state disk.new).told) }
     ensures placed { IfErr result (λ halt. halt.placed ≡ None) }
     ensures only { ChangesContent (D.state disk.old) (D.state disk.new) }
     ensures owed { IfErr result (λ halt. AreOwed geometry.now halt.owed) }
@@ -69,7 +70,7 @@ fn clear<D: Device>(
     requires names { IfSome (D.state disk.old).told (λ told. named (logical geometry.now told.image (Field.Pointer file index)) ≡ Some block) }
     ensures done { OnOk result (OnImages (λ old new. Becomes geometry.now old new (cleared file index (index + 1) (λ x. logical geometry.now old x)) (blocks_of geometry.now old)) (D.state disk.old).told (D.state disk.new).told) }
     ensures kept { OnOk result (HasVolume geometry.now (D.state disk.new) Owed.Nothing) }
-    ensures halted { IfErr result (λ halt. OnImages (IsStopped geometry.now (D.state disk.old).counter (edits_owed halt.owed)) (D.state disk.old).told (D.state disk.new).told) }
+    ensures halted { IfErr result (λ halt. OnImages (IsPartlyCleared geometry.now (D.state disk.old).counter (edits_owed halt.owed)) (D.state disk.old).told (D.state disk.new).told) }
     ensures placed { IfErr result (λ halt. halt.placed ≡ None) }
     ensures only { ChangesContent (D.state disk.old) (D.state disk.new) }
     ensures owed { IfErr result (λ halt. AreOwed geometry.now halt.owed) }
@@ -96,7 +97,7 @@ fn first_remain<D: Device>(
     end: u32,
 ) -> Result<Option<(u32, DataNo)>, AccessNo>
     requires served { IsServed geometry.now key (D.state disk.old) }
-    requires volume { TellsVolume geometry.now (D.state disk.old) }
+    requires volume { TellsReadable geometry.now (D.state disk.old) }
     requires file { file < geometry.now.files }
     requires end { end ≤ limit geometry.now }
     ensures inside { IfOk result (λ found. IfSome found (λ at. (from ≤ at.0) × (at.0 < end) × (at.1 < data_blocks geometry.now))) }

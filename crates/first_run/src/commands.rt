@@ -2,10 +2,11 @@
 ghost use Rattle.std.specs.Prelude.{◌≡◌, ◌≤◌, ◌<◌, ◌+◌, IfErr, IfOk, IfSome, None, OnOk};
 ghost use Rattle.vol_layout.specs.Ranges.{limit};
 ghost use Rattle.image_view.specs.Numbers.{logical};
-ghost use Rattle.first_run.specs.Halts.{IsHalted, IsLengthOf, IsRefusedFor, TellsVolume};
+ghost use Rattle.first_run.specs.Halts.{IsHalted, IsLengthOf, IsRefusedFor, TellsReadable};
 ghost use Rattle.first_run.specs.Made.{IsBuiltCall, IsMade};
 ghost use Rattle.first_run.specs.Owing.{AreOwed, edits_owed};
-ghost use Rattle.first_run.specs.Seats.{ChangesContent, HasVolume, IsServed, OnImages};
+ghost use Rattle.shared_disk.specs.State.{OnImages};
+ghost use Rattle.first_run.specs.Seats.{ChangesContent, HasVolume, IsServed};
 
 use crate::clearing::clear_remains;
 use crate::halt::Halt;
@@ -55,7 +56,7 @@ fn length_of<D: Device>(
     file: FileNo,
 ) -> Result<Option<u32>, Halt>
     requires served { IsServed geometry.now key (D.state disk.old) }
-    requires volume { TellsVolume geometry.now (D.state disk.old) }
+    requires volume { TellsReadable geometry.now (D.state disk.old) }
     requires file { file < geometry.now.files }
     ensures length { IfOk result (λ length. IfSome (D.state disk.old).told (λ told. IsLengthOf (logical geometry.now told.image (Field.Head file)) length)) }
     ensures range { IfOk result (λ length. IfSome length (λ n. n ≤ limit geometry.now)) }

@@ -1,7 +1,8 @@
 // How host 0 joins.
 ghost use Rattle.std.specs.Prelude.{◌≡◌, ◌≤◌, IfOk, None, OnErr};
 ghost use Rattle.first_run.specs.Keyless.{IsKeyless};
-ghost use Rattle.first_run.specs.Seats.{KeepsKeys, IsBetween, OnImages, run_state};
+ghost use Rattle.shared_disk.specs.State.{OnImages};
+ghost use Rattle.first_run.specs.Seats.{KeepsKeys, IsBetween, run_state};
 ghost use Rattle.first_run.specs.Steps.{EndsIn, Step};
 
 use crate::numbers::pay;

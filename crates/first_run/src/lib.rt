@@ -1,5 +1,6 @@
 //! The run of a workload by host 0 alone, in place: each line is one whole command that reads and writes
-//! the tables and data blocks of the volume, with no lock and no journal.
+//! the tables and data blocks of the volume, with no lock and no journal. It goes when the run of several
+//! hosts comes, so it is kept as it is.
 //!
 //! # What is proved
 //!
@@ -20,8 +21,8 @@
 //! - `memory`: where memory is refused, the files are those of some history that fits and is legal. At every answer the device has
 //!   the blocks that it had, each registered key stays so, and the count of faults does not fall (`blocks`, `keys`, `later`).
 //! - Over a device that tells nothing the clauses on content hold with nothing to show; the others hold.
-//! - Tested: the first reports, remains of a file that grows, a full volume, a write through a shared mark, and each device call of a
-//!   write failing in turn, with a new join and the write again behind it.
+//! - `job_tests` tests the first reports, remains of a file that grows, a full volume, a write through a shared mark, and a write that a failed device call cuts, with
+//!   a new join and the write again behind it.
 //! - Not proved: that a command makes no more device calls than it needs; what stands on the device between two device calls of one
 //!   command. Without a journal an image inside a command may show a pointer whose count is not written.
 #![tactic(auto)]
@@ -34,8 +35,6 @@ mod numbers;
 mod running;
 mod seat;
 mod step;
-#[cfg(test)]
-mod tests;
 mod writing;
 
 pub use running::{Ran, run};

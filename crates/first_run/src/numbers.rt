@@ -3,9 +3,10 @@ ghost use Rattle.std.specs.Prelude.{◌≡◌, ◌≤◌, ◌∷◌, [], IfErr, 
 ghost use Rattle.vol_layout.specs.Fields.{HasField, IsInRange};
 ghost use Rattle.image_view.specs.Balances.{edit};
 ghost use Rattle.image_view.specs.Numbers.{logical};
-ghost use Rattle.first_run.specs.Halts.{IsPaid, IsRefusedFor, IsStored, TellsVolume};
+ghost use Rattle.first_run.specs.Halts.{IsPaid, IsRefusedFor, IsStored, TellsReadable};
 ghost use Rattle.first_run.specs.Owing.{AreOwed, edit_of, edits_owed};
-ghost use Rattle.first_run.specs.Seats.{ChangesContent, IsServed, OnImages};
+ghost use Rattle.shared_disk.specs.State.{OnImages};
+ghost use Rattle.first_run.specs.Seats.{ChangesContent, IsServed};
 
 use crate::halt::Halt;
 use crate::seat::{CountEdit, Owed};
@@ -22,7 +23,7 @@ pub fn load<D: Device>(
     what: &Field,
 ) -> Result<u32, AccessNo>
     requires served { IsServed geometry.now key (D.state disk.old) }
-    requires volume { TellsVolume geometry.now (D.state disk.old) }
+    requires volume { TellsReadable geometry.now (D.state disk.old) }
     requires has { HasField geometry.now what.now }
     ensures number { IfOk result (λ n. IfSome (D.state disk.old).told (λ told. n ≡ logical geometry.now told.image what.now)) }
     ensures range { IfOk result (λ n. IsInRange geometry.now what.now n) }
@@ -46,7 +47,7 @@ pub fn store<D: Device>(
     new: u32,
 ) -> Result<(), AccessNo>
     requires served { IsServed geometry.now key (D.state disk.old) }
-    requires volume { TellsVolume geometry.now (D.state disk.old) }
+    requires volume { TellsReadable geometry.now (D.state disk.old) }
     requires has { HasField geometry.now what.now }
     requires range { IsInRange geometry.now what.now new }
     ensures done { OnOk result (OnImages (IsStored geometry.now (D.state disk.old).counter (edit what.now new ∷ [])) (D.state disk.old).told (D.state disk.new).told) }
@@ -68,7 +69,7 @@ pub fn store<D: Device>(
 /// stands in the history as the caller says.
 pub fn pay<D: Device>(disk: &mut D, key: Key, geometry: &Geometry, owed: Owed) -> Result<(), Halt>
     requires served { IsServed geometry.now key (D.state disk.old) }
-    requires volume { TellsVolume geometry.now (D.state disk.old) }
+    requires volume { TellsReadable geometry.now (D.state disk.old) }
     requires owed { AreOwed geometry.now owed }
     ensures done { OnOk result (OnImages (IsPaid geometry.now (D.state disk.old).counter (edits_owed owed) []) (D.state disk.old).told (D.state disk.new).told) }
     ensures left { IfErr result (λ halt. OnImages (IsPaid geometry.now (D.state disk.old).counter (edits_owed owed) (edits_owed halt.owed)) (D.state disk.old).told (D.state disk.new).told) }
@@ -97,7 +98,7 @@ fn pay_one<D: Device>(
     owed: Owed,
 ) -> Result<(), Halt>
     requires served { IsServed geometry.now key (D.state disk.old) }
-    requires volume { TellsVolume geometry.now (D.state disk.old) }
+    requires volume { TellsReadable geometry.now (D.state disk.old) }
     requires has { HasField geometry.now (Field.Count edit.block) }
     requires range { IsInRange geometry.now (Field.Count edit.block) edit.count }
     ensures done { OnOk result (OnImages (IsStored geometry.now (D.state disk.old).counter (edit_of edit ∷ [])) (D.state disk.old).told (D.state disk.new).told) }

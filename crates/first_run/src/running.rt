@@ -7,7 +7,8 @@ ghost use Rattle.histories.specs.Phases.{ArePhased};
 ghost use Rattle.image_view.specs.Valid.{IsValid};
 ghost use Rattle.first_run.specs.Uncut.{AreUncut};
 ghost use Rattle.first_run.specs.Runs.{entry_at, IsBuiltLine, IsUnheld, Leads, LeadsFiles, Steps};
-ghost use Rattle.first_run.specs.Seats.{KeepsKeys, HasVolume, OnImages, owed_of, run_state};
+ghost use Rattle.shared_disk.specs.State.{OnImages};
+ghost use Rattle.first_run.specs.Seats.{KeepsKeys, HasVolume, owed_of, run_state};
 
 use crate::seat::{Owed, Seat};
 use crate::step::{Done, step};

@@ -1,7 +1,8 @@
 // One line of a workload, done whole.
 ghost use Rattle.std.specs.Prelude.{◌≡◌, ◌≢◌, ◌≤◌, IfOk, None, OnErr};
 ghost use Rattle.first_run.specs.Runs.{IsBuilt};
-ghost use Rattle.first_run.specs.Seats.{KeepsKeys, IsBetween, OnImages, run_state};
+ghost use Rattle.shared_disk.specs.State.{OnImages};
+ghost use Rattle.first_run.specs.Seats.{KeepsKeys, IsBetween, run_state};
 ghost use Rattle.first_run.specs.Steps.{EndsIn, IfCut, IsCutOf, Step, reply_in};
 
 use crate::commands::make_call;

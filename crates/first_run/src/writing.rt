@@ -3,10 +3,11 @@ ghost use Rattle.std.specs.Prelude.{◌≡◌, ◌≤◌, ◌<◌, ◌+◌, IfEr
 ghost use Rattle.vol_layout.specs.Ranges.{data_blocks, limit};
 ghost use Rattle.image_view.specs.Numbers.{logical};
 ghost use Rattle.image_view.specs.Pointers.{IsUnmarked, named};
-ghost use Rattle.first_run.specs.Halts.{IsHalted, IsRefusedFor, TellsVolume};
+ghost use Rattle.first_run.specs.Halts.{IsHalted, IsRefusedFor, TellsReadable};
 ghost use Rattle.first_run.specs.Made.{IsMade};
 ghost use Rattle.first_run.specs.Owing.{AreOwed, counts_of, edits_owed};
-ghost use Rattle.first_run.specs.Seats.{ChangesContent, HasVolume, IsServed, OnImages};
+ghost use Rattle.shared_disk.specs.State.{OnImages};
+ghost use Rattle.first_run.specs.Seats.{ChangesContent, HasVolume, IsServed};
 
 use crate::halt::Halt;
 use crate::numbers::{load, pay, store};
@@ -104,7 +105,7 @@ fn counts_after<D: Device>(
     shared: Option<DataNo>,
 ) -> Result<Owed, Halt>
     requires served { IsServed geometry.now key (D.state disk.old) }
-    requires volume { TellsVolume geometry.now (D.state disk.old) }
+    requires volume { TellsReadable geometry.now (D.state disk.old) }
     requires fresh { fresh < data_blocks geometry.now }
     requires shared { IfSome shared (λ d. d < data_blocks geometry.now) }
     ensures owed { IfOk result (λ owed. AreOwed geometry.now owed) }

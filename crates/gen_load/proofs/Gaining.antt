@@ -14,7 +14,8 @@ unfolding ended
 ended-append xs ys = flat_map-append (λ line. line ++ 10 ∷ []) xs ys
 
 -- lines, and further lines behind them
-pub both : {before middle after : String Global} {xs ys : List (List ℕ)} → Gains before middle xs → Gains middle after ys → Gains before after (xs ++ ys)
+pub both : {before middle after : String Global} {xs ys : List (List ℕ)} → Gains before middle xs → Gains middle after ys
+    → Gains before after (xs ++ ys)
 both {before = before} {xs = xs} {ys = ys} first second =
     record {
       text =
@@ -25,7 +26,8 @@ both {before = before} {xs = xs} {ys = ys} first second =
     }
 
 -- one line more
-pub line : {before after : String Global} {text : List ℕ} → string_bytes after ≡ string_bytes before ++ (text ++ 10 ∷ []) → Gains before after (text ∷ [])
+pub line : {before after : String Global} {text : List ℕ} → string_bytes after ≡ string_bytes before ++ (text ++ 10 ∷ [])
+    → Gains before after (text ∷ [])
 unfolding ended
 line {before = before} {text = text} e = record { text = e ∙ ap (λ (t : List ℕ). string_bytes before ++ t) (sym (append-nil (text ++ 10 ∷ []))) }
 
@@ -61,7 +63,8 @@ pub more_below : (n : ℕ) (lines : ℕ → List (List ℕ)) {before middle afte
 more_below n lines first second = same_lines (sym (each_below-more n lines)) (both first second)
 
 -- the lines up to a number that is the bound
-pub all_below : (n bound : ℕ) (lines : ℕ → List (List ℕ)) {before after : String Global} → n ≡ bound → Gains before after (each_below n lines) → Gains before after (each_below bound lines)
+pub all_below : (n bound : ℕ) (lines : ℕ → List (List ℕ)) {before after : String Global} → n ≡ bound
+    → Gains before after (each_below n lines) → Gains before after (each_below bound lines)
 all_below n bound lines e gains = same_lines (ap (λ (k : ℕ). each_below k lines) e) gains
 
 -- a round with a log, and one without

@@ -13,6 +13,3 @@
 mod generating;
 
 pub use generating::gen_text;
-
-#[cfg(test)]
-mod tests;

@@ -51,13 +51,15 @@ number-same g is (File file) (Part part) has has' e = absurd has'
 number-same g is (More file block) (Group group) has has' e = absurd has'
 number-same g is (More file block) (Part part) has has' e = absurd has'
 
-place-same : (g : Geometry) → IsGeometry g → (host other : ℕ) (t s : Table) → CanKeep g host t → CanKeep g other s → place_of g host t ≡ place_of g other s → (host ≡ other) × (t ≡ s)
+place-same : (g : Geometry) → IsGeometry g → (host other : ℕ) (t s : Table) → CanKeep g host t → CanKeep g other s
+    → place_of g host t ≡ place_of g other s → (host ≡ other) × (t ≡ s)
 place-same g is host other t s can can' e =
     let both = grid-same host other (file_tables g) (number_of g t) (number_of g s) (number-within g is t can.1) (number-within g is s can'.1) e in
     (both.0, number-same g is t s can.1 can'.1 both.1)
 
 -- what is kept at a file table
-pub kept_at-file : (g : Geometry) (cache : Cache) (host : ℕ) (t : Table) → IsFileTable g t → kept_at cache host t ≡ get_or cache.places (place_of cache.volume host t) None
+pub kept_at-file : (g : Geometry) (cache : Cache) (host : ℕ) (t : Table) → IsFileTable g t
+    → kept_at cache host t ≡ get_or cache.places (place_of cache.volume host t) None
 kept_at-file g cache host (File file) has = refl
 kept_at-file g cache host (More file block) has = refl
 kept_at-file g cache host (Group group) has = absurd has
@@ -130,7 +132,8 @@ changed old g places after host place which table e set_is place_is is long can 
     (changes-place g places host which table is long can_there))
 
 pub forgot : (old : Cache) (g : Geometry) (places after : List (Option Packing)) (host first end : ℕ)
-    → cache_of g places ≡ old → ClearsRange places after first end → first ≡ host * file_tables g → end ≡ host * file_tables g + file_tables g
+    → cache_of g places ≡ old → ClearsRange places after first end → first ≡ host * file_tables g
+    → end ≡ host * file_tables g + file_tables g
     → IsGeometry g → ForgetsHost old (cache_of g after) host
 forgot old g places after host first end e clears first_is end_is is =
     subst (λ (c : Cache). ForgetsHost c (cache_of g after) host) e
@@ -139,14 +142,16 @@ forgot old g places after host first end e clears first_is end_is is =
     (subst (λ (n : ℕ). ClearsRange places after first n) end_is clears)))
 
 -- a table of a file is one that may be kept
-pub file-table : (g : Geometry) (which : Table) → HasTable g which → ((file : ℕ) × (which ≡ File file)) ⊎ ((file : ℕ) × (block : ℕ) × (which ≡ More file block)) → IsFileTable g which
+pub file-table : (g : Geometry) (which : Table) → HasTable g which
+    → ((file : ℕ) × (which ≡ File file)) ⊎ ((file : ℕ) × (block : ℕ) × (which ≡ More file block)) → IsFileTable g which
 file-table g (File file) has is = has
 file-table g (More file block) has is = has
 file-table g (Group group) has is = absurd (elim is [ inl first ↦ (let e = first.1 in cc) | inr more ↦ (let e = more.2 in cc) ])
 file-table g (Part part) has is = absurd (elim is [ inl first ↦ (let e = first.1 in cc) | inr more ↦ (let e = more.2 in cc) ])
 
 -- the places of a host end before those of the next, or at the end
-pub host-within : (g : Geometry) (host first each count : ℕ) → first ≡ host → each ≡ file_tables g → count ≡ places_of g → host < g.hosts → first * each + each ≤ count
+pub host-within : (g : Geometry) (host first each count : ℕ) → first ≡ host → each ≡ file_tables g → count ≡ places_of g → host < g.hosts
+    → first * each + each ≤ count
 host-within g host first each count first_is each_is count_is within =
     let next : host + 1 ≤ g.hosts = omega arith in
     let rows : (host + 1) * file_tables g ≤ g.hosts * file_tables g = mul-le-mul_right (file_tables g) next in

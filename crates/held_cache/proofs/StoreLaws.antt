@@ -26,7 +26,8 @@ same P Q T all long each =
     ext_get_or None (stored Q T) all (count ∙ long) (λ i within. stored-at Q T i ∙ each i (omega arith))
 
 -- a position that the change does not touch
-elsewhere : (T : List (Option Packing)) (n : ℕ) (table : Option Packing) (o : Option ℕ) → ((m : ℕ) → o ≡ Some m → m ≡ n → ⊥) → table_at (set T n table) o ≡ table_at T o
+elsewhere : (T : List (Option Packing)) (n : ℕ) (table : Option Packing) (o : Option ℕ) → ((m : ℕ) → o ≡ Some m → m ≡ n → ⊥)
+    → table_at (set T n table) o ≡ table_at T o
 elsewhere T n table None apart = refl
 elsewhere T n table (Some m) apart = get_or-set_other T n m table None (apart m refl)
 
@@ -53,7 +54,8 @@ stored-put P T capacity place n table is at =
     ])
 
 -- a position that stood before another table came behind the last one
-before_push : (T : List (Option Packing)) (table : Option Packing) (o : Option ℕ) → ((m : ℕ) → o ≡ Some m → m < length T) → table_at (T ++ table ∷ []) o ≡ table_at T o
+before_push : (T : List (Option Packing)) (table : Option Packing) (o : Option ℕ) → ((m : ℕ) → o ≡ Some m → m < length T)
+    → table_at (T ++ table ∷ []) o ≡ table_at T o
 before_push T table None inside = refl
 before_push T table (Some m) inside = get_or_append_left T (table ∷ []) None m (inside m refl)
 
@@ -81,13 +83,15 @@ stored-push P T capacity place table is within =
     ])
 
 -- a place without a position has no table
-pub stored-none : (P : List (Option ℕ)) (T : List (Option Packing)) (place : ℕ) → position_of P place ≡ None → stored P T ≡ set (stored P T) place None
+pub stored-none : (P : List (Option ℕ)) (T : List (Option Packing)) (place : ℕ) → position_of P place ≡ None
+    → stored P T ≡ set (stored P T) place None
 stored-none P T place at =
     sym (set-get_or (stored P T) place None)
     ∙ ap (λ (table : Option Packing). set (stored P T) place table) (stored-at P T place ∙ ap (table_at T) at)
 
 -- what a store keeps when the table at a position changes
-pub kept-put : (P : List (Option ℕ)) (T : List (Option Packing)) (capacity n : ℕ) (table : Option Packing) → IsStored P T capacity → IsStored P (set T n table) capacity
+pub kept-put : (P : List (Option ℕ)) (T : List (Option Packing)) (capacity n : ℕ) (table : Option Packing) → IsStored P T capacity
+    → IsStored P (set T n table) capacity
 kept-put P T capacity n table is =
     let long : length (set T n table) ≡ length T = length-set T n table in
     record {
@@ -98,7 +102,8 @@ kept-put P T capacity n table is =
     }
 
 -- one place more has a position
-count-push : (P : List (Option ℕ)) (place n : ℕ) → place < length P → position_of P place ≡ None → count_by is_some (set P place (Some n)) ≡ count_by is_some P + 1
+count-push : (P : List (Option ℕ)) (place n : ℕ) → place < length P → position_of P place ≡ None
+    → count_by is_some (set P place (Some n)) ≡ count_by is_some P + 1
 count-push P place n within at =
     let one : Option ℕ → ℕ = λ o. cond (is_some o) 1 0 in
     let sums : count_by is_some (set P place (Some n)) + one (get_or P place None) ≡ count_by is_some P + 1 = sum_by-set one P place (Some n) None within in
@@ -106,7 +111,8 @@ count-push P place n within at =
     omega (arith, sums, nothing)
 
 -- there is room for the first table of a place
-pub room-push : (P : List (Option ℕ)) (T : List (Option Packing)) (capacity place : ℕ) → IsStored P T capacity → place < length P → position_of P place ≡ None → length T < capacity
+pub room-push : (P : List (Option ℕ)) (T : List (Option Packing)) (capacity place : ℕ) → IsStored P T capacity → place < length P
+    → position_of P place ≡ None → length T < capacity
 room-push P T capacity place is within at =
     let more = count-push P place 0 within at in
     let most = count_by-le-length is_some (set P place (Some 0)) in
@@ -130,7 +136,8 @@ position-push P T capacity place other m is within at =
 
 -- what a store keeps when a place gets its first table
 pub kept-push : (P : List (Option ℕ)) (T : List (Option Packing)) (capacity place : ℕ) (table : Option Packing)
-    → IsStored P T capacity → place < length P → position_of P place ≡ None → IsStored (set P place (Some (length T))) (T ++ table ∷ []) capacity
+    → IsStored P T capacity → place < length P → position_of P place ≡ None
+    → IsStored (set P place (Some (length T))) (T ++ table ∷ []) capacity
 kept-push P T capacity place table is within at =
     let Q = set P place (Some (length T)) in
     let longer : length (T ++ table ∷ []) ≡ length T + 1 = length_push T table in
@@ -207,11 +214,13 @@ stored-pushed P T after all capacity place n table count pushed e is within =
     ∙ stored-push P T capacity place table is within
     ∙ ap (λ (tables : List (Option Packing)). set tables place table) e
 
-pub stored-made : (P : List (Option ℕ)) (T : List (Option Packing)) (places : ℕ) → P ≡ replicate places None → T ≡ [] → stored P T ≡ replicate places None
+pub stored-made : (P : List (Option ℕ)) (T : List (Option Packing)) (places : ℕ) → P ≡ replicate places None → T ≡ []
+    → stored P T ≡ replicate places None
 stored-made P T places positions tables =
     ap (λ (ps : List (Option ℕ)). stored ps T) positions ∙ ap (stored (replicate places None)) tables ∙ stored-empty places
 
-pub kept-made : (P : List (Option ℕ)) (T : List (Option Packing)) (places capacity : ℕ) → P ≡ replicate places None → T ≡ [] → places ≤ capacity → IsStored P T capacity
+pub kept-made : (P : List (Option ℕ)) (T : List (Option Packing)) (places capacity : ℕ) → P ≡ replicate places None → T ≡ []
+    → places ≤ capacity → IsStored P T capacity
 kept-made P T places capacity positions tables room =
     subst (λ (ps : List (Option ℕ)). IsStored ps T capacity) (sym positions)
     (subst (λ (ts : List (Option Packing)). IsStored (replicate places None) ts capacity) (sym tables) (kept-empty places capacity room))
@@ -220,7 +229,8 @@ kept-made P T places capacity positions tables room =
 pub cleared-none : (all : List (Option Packing)) (first : ℕ) → ClearsRange all all first first
 cleared-none all first = record { long = refl; cleared = λ place low high. absurd (omega arith); others = λ place out. refl }
 
-pub cleared-more : (old between new : List (Option Packing)) (first at : ℕ) → ClearsRange old between first at → first ≤ at → at < length old → new ≡ set between at None → ClearsRange old new first (at + 1)
+pub cleared-more : (old between new : List (Option Packing)) (first at : ℕ) → ClearsRange old between first at → first ≤ at
+    → at < length old → new ≡ set between at None → ClearsRange old new first (at + 1)
 cleared-more old between new first at clears low within e =
     let inside : at < length between = omega (arith, clears.long) in
     record {

@@ -18,6 +18,3 @@ mod cache;
 mod store;
 
 pub use cache::HeldCache;
-
-#[cfg(test)]
-mod tests;

@@ -14,7 +14,8 @@ put_in_rest at old part buf h e =
     ∙ ap (λ (xs : List ℕ). take at old ++ xs) (append-nil (part ++ drop (at + 4) old))
 
 -- four bytes behind what stands already
-put_behind : (at : ℕ) (front part rest new : List ℕ) → length front ≡ at → new ≡ take at (front ++ rest) ++ (part ++ drop (at + 4) (front ++ rest)) → new ≡ (front ++ part) ++ drop 4 rest
+put_behind : (at : ℕ) (front part rest new : List ℕ) → length front ≡ at
+    → new ≡ take at (front ++ rest) ++ (part ++ drop (at + 4) (front ++ rest)) → new ≡ (front ++ part) ++ drop 4 rest
 put_behind at front part rest new long e =
     let before : take at (front ++ rest) ≡ front = take_at front rest at long in
     let behind : drop (at + 4) (front ++ rest) ≡ drop 4 rest = sym (drop-drop 4 at (front ++ rest)) ∙ ap (drop 4) (drop_at front rest at long) in
@@ -24,7 +25,8 @@ put_behind at front part rest new long e =
     ∙ sym (append_assoc front part (drop 4 rest))
 
 pub three_numbers : (d a b c rest one two three : List ℕ) → length d ≡ 20 → length a ≡ 4 → length b ≡ 4 → length rest ≡ 12
-    → one ≡ take 20 (d ++ rest) ++ (a ++ drop 24 (d ++ rest)) → two ≡ take 24 one ++ (b ++ drop 28 one) → three ≡ take 28 two ++ (c ++ drop 32 two)
+    → one ≡ take 20 (d ++ rest) ++ (a ++ drop 24 (d ++ rest)) → two ≡ take 24 one ++ (b ++ drop 28 one)
+    → three ≡ take 28 two ++ (c ++ drop 32 two)
     → three ≡ d ++ (a ++ (b ++ (c ++ [])))
 three_numbers d a b c rest one two three d_long a_long b_long r_long p q r =
     let first : one ≡ (d ++ a) ++ drop 4 rest = put_behind 20 d a rest one d_long p in

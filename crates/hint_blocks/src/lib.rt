@@ -26,6 +26,3 @@ pub use entry::{HintTo, IndexEntry, LogEntry, Request};
 pub use hint::Hint;
 pub use hints::Hints;
 pub use shard::shard_of;
-
-#[cfg(test)]
-mod tests;

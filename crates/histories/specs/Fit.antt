@@ -22,16 +22,20 @@ IsPlaceless _ = Unit {0}
 -- entry or not.
 pub record Fits (lines : List Line) (answers : List (Option Answer)) (history : List Placed) : Type 0 where
   -- each entry is of a file command
-  pub commands : (k : ℕ) (entry : Placed) → slice_get history k ≡ Some entry → (line : Line) × IsLine lines entry.line line × IsFileLine line
+  pub commands : (k : ℕ) (entry : Placed) → slice_get history k ≡ Some entry
+      → (line : Line) × IsLine lines entry.line line × IsFileLine line
   -- no position has two entries
   pub once : (j k : ℕ) (a b : Placed) → j < k → slice_get history j ≡ Some a → slice_get history k ≡ Some b → a.line ≢ b.line
   -- the entries of one host stand in the order of their positions
-  pub order : (j k : ℕ) (a b : Placed) (l m : Line) → j < k → IsEntry lines history j a l → IsEntry lines history k b m → l.host ≡ m.host → a.line < b.line
+  pub order : (j k : ℕ) (a b : Placed) (l m : Line) → j < k → IsEntry lines history j a l → IsEntry lines history k b m → l.host ≡ m.host
+      → a.line < b.line
   -- the entries of a phase stand before those of the next
   pub phases : (j k : ℕ) (a b : Placed) (l m : Line) → j < k → IsEntry lines history j a l → IsEntry lines history k b m → l.phase ≤ m.phase
   -- a plain reply that was answered stands in the history
-  pub placed : (p : ℕ) (reply : PlainReply) → p < 2 ^ 32 → IsAnswered answers p (Plain reply) → Contains history (record { line = p; reply = reply })
+  pub placed : (p : ℕ) (reply : PlainReply) → p < 2 ^ 32 → IsAnswered answers p (Plain reply)
+      → Contains history (record { line = p; reply = reply })
   -- a position with an answer of another kind, but a cut, does not
-  pub placeless : (p : ℕ) (answer : Answer) (entry : Placed) → IsAnswered answers p answer → IsPlaceless answer → Contains history entry → entry.line ≢ p
+  pub placeless : (p : ℕ) (answer : Answer) (entry : Placed) → IsAnswered answers p answer → IsPlaceless answer → Contains history entry
+      → entry.line ≢ p
   -- each answer is one that its command can get
   pub own : (p : ℕ) (answer : Answer) (line : Line) → IsAnswered answers p answer → IsLine lines p line → MayGet line.command answer

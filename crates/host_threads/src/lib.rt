@@ -16,8 +16,6 @@
 
 mod drive;
 mod phase;
-#[cfg(test)]
-mod tests;
 mod turns;
 
 pub use phase::run_phase;

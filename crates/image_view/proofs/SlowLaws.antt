@@ -1,13 +1,11 @@
 -- What the slow program finds in an image.
-use Rattle.std.proofs.Common.{◌≡◌, ◌≢◌, ◌<◌, ◌≤◌, ◌+◌, ◌-◌, ◌*◌, ◌%◌, ◌^◌, ◌==◌, ◌&&◌, ℕ, zero, suc, Bool, true, false, List, [], ◌∷◌, map, length, get_or, sum_by, cond, Option, Some, None, if◌then◌else◌, refl, sym, ap, ◌∙◌, inl, inr, arith}
-use mir.Val.{bool_byte}
+use Rattle.std.proofs.Common.{◌≡◌, ◌≢◌, ◌<◌, ◌≤◌, ◌+◌, ◌-◌, ◌*◌, ◌%◌, ◌^◌, ◌==◌, ◌&&◌, ℕ, zero, suc, true, false, List, [], ◌∷◌, map, length, get_or, sum_by, Option, Some, None, if◌then◌else◌, refl, sym, ap, ◌∙◌, inl, inr, arith}
 use Rattle.std.specs.Prelude.{nat_lt, slice_get}
 use Rattle.image_view.specs.Files.{content}
 use Rattle.std.specs.List.{flat_map, range_with_len}
 use Rattle.std.proofs.Math.Bool.{and-true}
 use Rattle.std.proofs.lemmas.Bool.{cases_Bool, cases_eq, lt-ltb, ne_eqb}
 use Rattle.std.proofs.lemmas.List.{drop_all, get_or-map, length-map}
-use Rattle.std.proofs.lemmas.List.Sums.{sum_by-cons}
 use Rattle.vol_base.specs.declared.block.Block.{Block}
 use Rattle.vol_base.specs.Bytes.{number_at, u32_at, zeros}
 use Rattle.vol_base.specs.laws.BytesLaws.{number_at-drop, number_at-zeros}
@@ -28,13 +26,11 @@ use Rattle.image_view.specs.Blocks.{IsVolumeOf, hits, image_of}
 use Rattle.image_view.specs.Mappings.{reference_fields}
 use Rattle.image_view.specs.Balances.{share}
 use Rattle.image_view.specs.laws.UseLaws.{names_one, sum_by-reference_fields}
-use Rattle.image_view.specs.Pointers.{mark_of, named}
 use Rattle.image_view.specs.Images.{Image, block_at}
 use Rattle.image_view.specs.Numbers.{field, journal, logical, standing}
 use Rattle.image_view.specs.laws.EditLaws.{edited-append}
 use Rattle.image_view.specs.Found.{found}
 use Rattle.vol_layout.specs.declared.geometry.Geometry.{Geometry}
-use Rattle.std.proofs.Common.{add-one, add-zero, zero-add}
 
 -- which field the three numbers of an edit say
 pub same_head : (t a b f : ℕ) → same_field (field_from t a b) (Head f) ≡ ((t == 0) && (a == f))
@@ -147,20 +143,6 @@ pub logical_none : (g : Geometry) (image : Image) (x : Field) → ((k : ℕ) →
 unfolding logical standing
 logical_none g image x none = each_none (λ h. journal g image h) x (field g image x) 0 g.hosts g.hosts (omega arith) none
 
--- a sum over a range with one more number
-pub sum_by_range_more : (w : ℕ → ℕ) (n : ℕ) → sum_by w (range_with_len 0 (n + 1)) ≡ sum_by w (range_with_len 0 n) + w n
-sum_by_range_more w n = rw (add-one n) (sum_from w 0 n ∙ ap (λ k. sum_by w (range_with_len 0 n) + w k) (zero-add n))
-  where
-    sum_from : (w : ℕ → ℕ) (a n : ℕ) → sum_by w (range_with_len a (suc n)) ≡ sum_by w (range_with_len a n) + w (a + n)
-    sum_from w a zero = rw (add-zero a) refl
-    sum_from w a (suc n) =
-        let next : a + 1 + n ≡ a + suc n = omega arith in
-        rw (sum_by-cons w a (range_with_len (a + 1) (suc n)), sum_by-cons w a (range_with_len (a + 1) n), sum_from w (a + 1) n, next) (omega arith)
-
--- the numbers of an image in memory
-pub block-image_of : (blocks : List Block) (p : ℕ) (block : Block) → p < length blocks → block ≡ get_or blocks p block → block.0 ≡ get_or (image_of blocks) p []
-block-image_of blocks p block below is = ap (λ (b : Block). b.0) is ∙ sym (get_or-map (λ (b : Block). b.0) blocks p block [] below)
-
 -- where a field stands in its table
 pub byte-head : (x : Field) → entry_of x ≡ None → byte_of x ≡ 12
 byte-head (Head f) e = refl
@@ -208,32 +190,12 @@ field_read g image x t block at is table here = rw (is, table, here) refl
 pub volume_has_block : (g : Geometry) (blocks : List Block) → IsVolumeOf g (image_of blocks) → 0 < length blocks
 volume_has_block g blocks volume = let inside = place_of-inside g kinds.Super tt in omega (arith, volume.long, length-map blocks (λ (b : Block). b.0))
 
--- what a pointer names is in its number
-pub named-pointer : (d : ℕ) (shared : Bool) → d + 1 < 2 ^ 31 → named (d + 1 + mark_of shared) ≡ Some d
-named-pointer d shared small =
-    let low : (d + 1 + mark_of shared) % 2 ^ 31 ≡ d + 1 = elim shared as (λ b. (d + 1 + mark_of b) % 2 ^ 31 ≡ d + 1) [ true ↦ omega arith | false ↦ omega arith ] in
-    let less : d + 1 - 1 ≡ d = omega arith in
-    rw (low, ne_eqb (d + 1) 0 (λ e. absurd (omega (arith, e))), less) refl
-
 -- mappings and uses, as sums of hits
 pub mapped_sum : (g : Geometry) (image : Image) (wanted : Option ℕ) (f s : ℕ)
     → f ≡ sum_by (λ f. sum_by (λ i. hits wanted (logical g image (Pointer f i))) (range_with_len 0 (limit g))) (range_with_len 0 g.files)
     → s ≡ sum_by (λ s. hits wanted (logical g image (Slot s))) (range_with_len 0 (arena_slots g))
     → f + s ≡ sum_by (λ x. hits wanted (logical g image x)) (reference_fields g)
 mapped_sum g image wanted f s ef es = rw (sum_by-reference_fields g (λ x. hits wanted (logical g image x)), ef, es) refl
-
--- a sum and a count with one more number
-pub summed_more : (w : ℕ → ℕ) (n u r : ℕ) → u ≡ sum_by w (range_with_len 0 n) → r ≡ w n → u + r ≡ sum_by w (range_with_len 0 (n + 1))
-summed_more w n u r eu er = rw (sum_by_range_more w n, eu, er) refl
-
--- a test as a number
-pub bool_byte-is : (b : Bool) → bool_byte b ≡ cond b 1 0
-bool_byte-is true = refl
-bool_byte-is false = refl
-
-pub bit_le : (b : Bool) → cond b 1 0 ≤ 1
-bit_le true = omega arith
-bit_le false = omega arith
 
 -- an image of no block is no volume
 pub no_first : (blocks : List Block) → slice_get blocks 0 ≡ None → (g : Geometry) → IsVolumeOf g (image_of blocks) → ⊥

@@ -12,4 +12,5 @@ use Rattle.image_view.specs.Mappings.{uses}
 -- the mark is mapped once
 pub record IsCounted (g : Geometry) (image : Image) : Type 0 where
   pub counts : (d : ℕ) → HasField g (Count d) → logical g image (Count d) ≡ uses g image d
-  pub unmarked : (f i : ℕ) → HasField g (Pointer f i) → IsUnmarked (logical g image (Pointer f i)) → uses g image (logical g image (Pointer f i) - 1) ≡ 1
+  pub unmarked : (f i : ℕ) → HasField g (Pointer f i) → IsUnmarked (logical g image (Pointer f i))
+      → uses g image (logical g image (Pointer f i) - 1) ≡ 1

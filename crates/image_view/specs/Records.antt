@@ -19,7 +19,8 @@ IsEdited g old new es = (x : Field) → HasField g x → logical g new x ≡ edi
 
 -- after the edits too, a data number that a pointer names without the mark is mapped once
 pub record KeepsMarks (g : Geometry) (image : Image) (es : List Edit) : Type 0 where
-  pub edits : (f i n : ℕ) → HasField g (Pointer f i) → touches es (Pointer f i) ≡ true → n ≡ edited es (Pointer f i) (logical g image (Pointer f i)) → IsUnmarked n
+  pub edits : (f i n : ℕ) → HasField g (Pointer f i) → touches es (Pointer f i) ≡ true
+      → n ≡ edited es (Pointer f i) (logical g image (Pointer f i)) → IsUnmarked n
       → uses g image (n - 1) + gained es (n - 1) ≡ lost (λ x. logical g image x) es (n - 1) + 1
   pub others : (f i : ℕ) → HasField g (Pointer f i) → touches es (Pointer f i) ≡ false → IsUnmarked (logical g image (Pointer f i))
       → gained es (logical g image (Pointer f i) - 1) ≡ 0

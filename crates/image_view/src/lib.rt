@@ -19,6 +19,3 @@ mod usage;
 
 pub use pointer::{Number, read_pointer, write_pointer};
 pub use usage::{SurveyNo, Usage};
-
-#[cfg(test)]
-mod tests;

@@ -16,9 +16,10 @@ use Rattle.jobs.specs.declared.outcome.VolumeNo.{VolumeNo}
 use Rattle.jobs.specs.declared.outcome.VolumeNo.TheVariants as refusals
 use Rattle.jobs.specs.declared.status.Status.{Status}
 use Rattle.jobs.specs.declared.status.Status.TheVariants as statuses
-use Rattle.jobs.specs.Checks.{CheckDecides, CheckRefuses, IsCheckStatus, IsReady, PrintsRefusal, PrintsValid}
-use Rattle.jobs.specs.Endings.{DiskSeen, Ends, HasRefused, IsSmooth, SinkSeen, disk_seen}
-use Rattle.jobs.specs.Endings.{Told as IsTold}
+use Rattle.jobs.specs.Checks.{AreVisits, CheckDecides, CheckRefuses, IsCheckStatus, IsReady, PrintsRefusal, PrintsValid}
+use Rattle.shared_disk.specs.Seen.{DiskSeen}
+use Rattle.jobs.specs.Commands.{CheckEnds}
+use Rattle.jobs.specs.Endings.{Ends, HasRefused, IsSmooth, SinkSeen, IsTold}
 use Rattle.jobs.specs.Outcomes.{outcome_text, status_of}
 use Rattle.jobs.proofs.TellingLaws.{cut_of, told_quietly, written_of}
 
@@ -54,26 +55,26 @@ ready_not_refused s new (refusals.Held place) ready h = h
 ready_not_refused s new (refusals.Misread place) ready h = untold s.told _ ready.valid h.untold
 
 -- on such a device a check without a fault finds the volume valid, or has no memory
-ready_decides : (s : State) (first : ℕ) (new : DiskSeen) (outcome : Outcome)
-    → IsReady s → (Rose first new.faults → ⊥) → CheckDecides (disk_seen s first) new outcome
+ready_decides : (old new : DiskSeen) (outcome : Outcome)
+    → IsReady old.state → (Rose old.faults new.faults → ⊥) → CheckDecides old new outcome
     → (status_of outcome ≡ statuses.Ok) ⊎ (status_of outcome ≡ statuses.Memory)
-ready_decides s first new (outcomes.Done report) ready quiet h = inl refl
-ready_decides s first new (outcomes.Unsurveyed report cause) ready quiet h = absurd h
-ready_decides s first new outcomes.Usage ready quiet h = absurd h
-ready_decides s first new (outcomes.Workload line cause) ready quiet h = absurd h
-ready_decides s first new (outcomes.Volume refusal) ready quiet h = absurd (ready_not_refused s new.state refusal ready h)
-ready_decides s first new outcomes.DiskFault ready quiet h = absurd (quiet h)
-ready_decides s first new outcomes.ReadFault ready quiet h = absurd h
-ready_decides s first new outcomes.Memory ready quiet h = inr refl
-ready_decides s first new (outcomes.Geometry given found) ready quiet h = absurd h
+ready_decides old new (outcomes.Done report) ready quiet h = inl refl
+ready_decides old new (outcomes.Unsurveyed report cause) ready quiet h = absurd h
+ready_decides old new outcomes.Usage ready quiet h = absurd h
+ready_decides old new (outcomes.Workload line cause) ready quiet h = absurd h
+ready_decides old new (outcomes.Volume refusal) ready quiet h = absurd (ready_not_refused old.state new.state refusal ready h)
+ready_decides old new outcomes.DiskFault ready quiet h = absurd (quiet h)
+ready_decides old new outcomes.ReadFault ready quiet h = absurd h
+ready_decides old new outcomes.Memory ready quiet h = inr refl
+ready_decides old new (outcomes.Geometry given found) ready quiet h = absurd h
 
-pub check_completes : (s : State) (first : ℕ) (new : DiskSeen) (before after : SinkSeen) (status : Status)
-    → Ends (CheckDecides (disk_seen s first) new) before after status
-    → IsReady s → IsSmooth (disk_seen s first) new before after
+check_completes : (old new : DiskSeen) (before after : SinkSeen) (status : Status)
+    → Ends (CheckDecides old new) before after status
+    → IsReady old.state → IsSmooth old new before after
     → (status ≡ statuses.Ok) ⊎ (status ≡ statuses.Memory)
-check_completes s first new before after status ends ready smooth =
+check_completes old new before after status ends ready smooth =
     elim (told_quietly before after ends.outcome status smooth.sink ends.told) [
-      | inl is ↦ elim (ready_decides s first new ends.outcome ready smooth.disk ends.decided) [
+      | inl is ↦ elim (ready_decides old new ends.outcome ready smooth.disk ends.decided) [
         | inl ok ↦ inl (is ∙ ok)
         | inr memory ↦ inr (is ∙ memory)
       ]
@@ -100,7 +101,7 @@ done_printed old new before after outcomes.ReadFault is h text = absurd h
 done_printed old new before after outcomes.Memory is h text = absurd (let e : statuses.Ok ≡ statuses.Memory = is in cc)
 done_printed old new before after (outcomes.Geometry given found) is h text = absurd h
 
-pub check_valid : (old new : DiskSeen) (before after : SinkSeen) (status : Status)
+check_valid : (old new : DiskSeen) (before after : SinkSeen) (status : Status)
     → Ends (CheckDecides old new) before after status → status ≡ statuses.Ok → PrintsValid old.state new.state before.taken after.taken
 check_valid old new before after status ends is =
     let written = written_of before after ends.outcome status (λ e. cc) (λ e. cc) ends.told in
@@ -120,7 +121,7 @@ refusal_printed old new before after outcomes.ReadFault is h text = absurd h
 refusal_printed old new before after outcomes.Memory is h text = absurd (let e : statuses.Volume ≡ statuses.Memory = is in cc)
 refusal_printed old new before after (outcomes.Geometry given found) is h text = absurd h
 
-pub check_refused : (old new : DiskSeen) (before after : SinkSeen) (status : Status)
+check_refused : (old new : DiskSeen) (before after : SinkSeen) (status : Status)
     → Ends (CheckDecides old new) before after status → status ≡ statuses.Volume → PrintsRefusal old.state new.state before.taken after.taken
 check_refused old new before after status ends is =
     let written = written_of before after ends.outcome status (λ e. cc) (λ e. cc) ends.told in
@@ -138,7 +139,7 @@ fault_rose old new outcomes.ReadFault is h = absurd h
 fault_rose old new outcomes.Memory is h = absurd (let e : statuses.DiskFault ≡ statuses.Memory = is in cc)
 fault_rose old new (outcomes.Geometry given found) is h = absurd h
 
-pub check_failed : (old new : DiskSeen) (before after : SinkSeen) (status : Status)
+check_failed : (old new : DiskSeen) (before after : SinkSeen) (status : Status)
     → Ends (CheckDecides old new) before after status → status ≡ statuses.DiskFault → Rose old.faults new.faults
 check_failed old new before after status ends is =
     let written = written_of before after ends.outcome status (λ e. cc) (λ e. cc) ends.told in
@@ -162,10 +163,27 @@ told_status old new before after outcome status decided (inl written) = subst Is
 told_status old new before after outcome status decided (inr (inl short)) = subst IsCheckStatus (sym short.ends) tt
 told_status old new before after outcome status decided (inr (inr unwritten)) = subst IsCheckStatus (sym unwritten.ends) tt
 
-pub check_status : (old new : DiskSeen) (before after : SinkSeen) (status : Status)
+check_status : (old new : DiskSeen) (before after : SinkSeen) (status : Status)
     → Ends (CheckDecides old new) before after status → IsCheckStatus status
 check_status old new before after status ends = told_status old new before after ends.outcome status ends.decided ends.told
 
-pub check_cut_short : (old new : DiskSeen) (before after : SinkSeen) (status : Status)
+check_cut_short : (old new : DiskSeen) (before after : SinkSeen) (status : Status)
     → Ends (CheckDecides old new) before after status → status ≡ statuses.WriteFault → HasRefused before after
 check_cut_short old new before after status ends is = (cut_of before after ends.outcome status ends.told is).cause
+
+-- so an outcome that was decided and told has all that the job ends with, where the device holds what it held
+pub check_ends : (old new : DiskSeen) (before after : SinkSeen) (status : Status)
+    → Ends (CheckDecides old new) before after status → new.state.told ≡ old.state.told → new.state.blocks ≡ old.state.blocks
+    → AreVisits old.state new.state → CheckEnds old new before after status
+check_ends old new before after status ends told blocks visits = record {
+  ends = ends;
+  among = check_status old new before after status ends;
+  ok = check_valid old new before after status ends;
+  volume = check_refused old new before after status ends;
+  disk_fault = check_failed old new before after status ends;
+  write_fault = check_cut_short old new before after status ends;
+  told = told;
+  blocks = blocks;
+  visits = visits;
+  complete = check_completes old new before after status ends;
+}

@@ -4,8 +4,7 @@ use Rattle.jobs.specs.declared.outcome.Outcome.TheVariants as outcomes
 use Rattle.jobs.specs.declared.status.Status.{Status}
 use Rattle.jobs.specs.declared.words.Job.{Job}
 use Rattle.jobs.specs.Commands.{CommandEnds, IsUsageStatus, UsageEnds}
-use Rattle.jobs.specs.Endings.{SinkSeen}
-use Rattle.jobs.specs.Endings.{Told as IsTold}
+use Rattle.jobs.specs.Endings.{SinkSeen, IsTold}
 use Rattle.jobs.specs.Seen.{Seen}
 use Rattle.jobs.proofs.TellingLaws.{cut_of, written_of}
 

@@ -1,5 +1,5 @@
 -- What is built of a text.
-use Rattle.std.proofs.Common.{◌≡◌, ◌==◌, ◌&&◌, ◌^◌, ◌<◌, ℕ, zero, suc, All, Bool, true, false, List, [], ◌∷◌, Option, Some, None, Err, IsTrue, inl, inr, refl, sym, length, get_or, arith}
+use Rattle.std.proofs.Common.{◌≡◌, ◌==◌, ◌&&◌, ◌^◌, ◌+◌, ◌<◌, ℕ, zero, suc, All, Bool, true, false, List, [], ◌∷◌, Option, Some, None, Err, IsTrue, inl, inr, refl, sym, length, get_or, arith}
 use Rattle.std.specs.Prelude.{find, if◌then◌else◌, nat_le, not}
 use Rattle.std.specs.Option.{option_map}
 use Rattle.std.proofs.lemmas.Bool.{cases_Bool, eqb-true, false≢true, ltb-true}
@@ -11,7 +11,7 @@ use Rattle.workload.specs.declared.line.Line.{Line}
 use Rattle.workload.specs.declared.line.Workload.{Workload}
 use Rattle.vol_io.specs.declared.reading.ReadNo.{ReadNo}
 use Rattle.vol_io.specs.declared.reading.ReadNo.TheVariants as reads
-use Rattle.vol_io.specs.Reads.{ReadsFront}
+use Rattle.vol_io.specs.Reads.{ReadsFront, ReadsToEnd}
 use Rattle.workload.specs.declared.cause.WorkloadNo.TheVariants as causes
 use Rattle.workload.specs.Entries.{most_commands}
 use Rattle.workload.specs.Grammar.{most_bytes, workload_of}
@@ -20,7 +20,7 @@ use Rattle.workload.specs.Workloads.{IsAllowed, IsWorkload}
 use Rattle.first_run.specs.Runs.{IsBuilt, IsBuiltLine}
 use Rattle.jobs.specs.declared.outcome.Outcome.TheVariants as outcomes
 use Rattle.jobs.specs.Built.{built_workload_of, first_unbuilt, first_unbuilt_line, is_built, is_built_command}
-use Rattle.jobs.specs.Sources.{StopsReading, source_seen}
+use Rattle.jobs.specs.Sources.{SourceSeen, StopsReading, TakesAtMost}
 
 both : (a b : Bool) → (a && b) ≡ true → (a ≡ true) × (b ≡ true)
 both true true e = (refl, refl)
@@ -90,10 +90,19 @@ unfolding built_workload_of workload_of most_bytes
 too_long text long = let no : nat_le (length text) 1048576 ≡ false = grind (arith, nat_tests) in rw no refl
 
 -- so is that of which one byte more was read than a text may have
-pub stopped_long : (left rest : Option (List ℕ)) (faults later : ℕ) (refusal : ReadNo) → refusal ≡ reads.Long → ReadsFront 1048576 left rest refusal
-    → StopsReading (source_seen left faults) (source_seen rest later) (outcomes.Workload 0 causes.Long)
+pub stopped_long : (before after : SourceSeen) (refusal : ReadNo) → refusal ≡ reads.Long → ReadsFront 1048576 before.left after.left refusal
+    → StopsReading before after (outcomes.Workload 0 causes.Long)
 unfolding most_bytes
-stopped_long left rest faults later refusal is front =
+stopped_long before after refusal is front =
     let length_is = front.long.0 is in
     let long : most_bytes < length front.front = omega (arith, length_is) in
     record { text = front.front; consumed = front.consumed; whole = inr long; is = too_long front.front long }
+
+-- whatever the answer, no more was taken
+pub takes_whole : (before after : SourceSeen) (text : List ℕ) → ReadsToEnd 1048576 before.left after.left text → TakesAtMost (most_bytes + 1) before after
+unfolding most_bytes
+takes_whole before after text read = record { front = text; taken = read.consumed; bounded = omega (arith, read.within) }
+
+pub takes_front : (before after : SourceSeen) (refusal : ReadNo) → ReadsFront 1048576 before.left after.left refusal → TakesAtMost (most_bytes + 1) before after
+unfolding most_bytes
+takes_front before after refusal read = record { front = read.front; taken = read.consumed; bounded = omega (arith, read.bounded) }

@@ -14,7 +14,7 @@ use Rattle.workload.specs.declared.line.Workload.{Workload}
 use Rattle.first_run.specs.Runs.{Steps}
 use Rattle.first_run.specs.Seats.{ChangesContent, RunState}
 use Rattle.first_run.specs.Steps.{IsCutDevice, Step}
-use Rattle.jobs.specs.Endings.{DiskSeen}
+use Rattle.shared_disk.specs.Seen.{DiskSeen}
 use Rattle.jobs.specs.Runs.{IsRunOf, Run}
 
 -- the counter behind a command that was cut

@@ -7,7 +7,7 @@ use Rattle.vol_base.specs.Bytes.{zeros}
 use Rattle.vol_base.specs.Faults.{Rose}
 use Rattle.vol_layout.specs.declared.geometry.Geometry.{Geometry}
 use Rattle.vol_layout.specs.Regions.{total}
-use Rattle.shared_disk.specs.State.{State, Told}
+use Rattle.shared_disk.specs.State.{OnImages, State, Told}
 use Rattle.workload.specs.declared.line.Workload.{Workload}
 use Rattle.image_view.specs.Formatted.{IsFormatted}
 use Rattle.image_view.specs.laws.GeometryLaws.{IsVolume-valid, not_blank}
@@ -21,16 +21,15 @@ use Rattle.volume_opening.specs.laws.MisfitLaws.{blank_fits, volume_fits}
 use Rattle.volume_opening.specs.Misfits.{misfit}
 use Rattle.volume_opening.specs.Slots.{AreIdle, IsFirstHeld}
 use Rattle.first_run.specs.Runs.{LeadsFiles}
-use Rattle.first_run.specs.Seats.{OnImages}
-use Rattle.jobs.specs.declared.outcome.NoSurvey.{NoSurvey}
-use Rattle.jobs.specs.declared.outcome.NoSurvey.TheVariants as causes
+use Rattle.jobs.specs.declared.outcome.AfterRun.{AfterRun}
+use Rattle.jobs.specs.declared.outcome.AfterRun.TheVariants as after_runs
 use Rattle.jobs.specs.declared.outcome.Outcome.{Outcome}
 use Rattle.jobs.specs.declared.outcome.Outcome.TheVariants as outcomes
 use Rattle.jobs.specs.declared.outcome.VolumeNo.{VolumeNo}
 use Rattle.jobs.specs.declared.outcome.VolumeNo.TheVariants as refusals
 use Rattle.jobs.specs.declared.status.Status.TheVariants as statuses
-use Rattle.jobs.specs.Checks.{last_counter}
-use Rattle.jobs.specs.Endings.{DiskSeen}
+use Rattle.shared_disk.specs.Calls.{last_counter}
+use Rattle.shared_disk.specs.Seen.{DiskSeen}
 use Rattle.jobs.specs.Outcomes.{status_of}
 use Rattle.jobs.specs.Runs.{IsFitFor, IsRefusable, IsRunOf, IsUnfit, IsUnsurveyedFor, IsWrong, IsYieldedTo, MayBegin, Run, RunDecides, RunRefuses}
 use Rattle.jobs.proofs.CheckLaws.{contradicted}
@@ -91,16 +90,16 @@ fit_not_refused w old new (refusals.Held place) fit h =
 fit_not_refused w old new (refusals.Misread place) fit h = h
 
 -- and it is surveyed, unless it fails
-fit_surveyed : (w : Workload) (old new : DiskSeen) (last : Option Told) (run : Run) (cause : NoSurvey) → IsFitFor w old.state → (Rose old.faults new.faults → ⊥)
-    → IsRunOf w old last run → IsUnsurveyedFor run.closed new cause → ⊥
-fit_surveyed w old new last run causes.DiskFault fit quiet ran refused =
+fit_surveyed : (w : Workload) (old new : DiskSeen) (last : Option Told) (run : Run) (cause : AfterRun) → IsFitFor w old.state → (Rose old.faults new.faults → ⊥)
+    → IsRunOf w old last run → IsUnsurveyedFor w.geometry run.closed new cause → ⊥
+fit_surveyed w old new last run after_runs.DiskFault fit quiet ran refused =
     quiet (rose_since old.faults run.closed.faults new.faults (let a = ran.opens.later in let b = ran.later in omega (arith, a, b)) refused.1)
-fit_surveyed w old new last run (causes.NoKeys counter) fit quiet ran refused =
+fit_surveyed w old new last run (after_runs.NoKeys counter) fit quiet ran refused =
     let most = closed_counter w old last run ran in
     let met = refused.met in
     let keys = fit.keys in
     omega (arith, most, met, keys)
-fit_surveyed w old new last run (causes.Misread place) fit quiet ran refused =
+fit_surveyed w old new last run (after_runs.Misread place) fit quiet ran refused =
     still_told (LeadsFiles w.geometry w.lines run.history) old.state.told last (λ t. MayBegin w.geometry old.state.counter t.image) ran.files fit.content (rw (sym ran.ends) at refused.1.untold)
 
 fit_geometry : (g : Geometry) (s : State) (given found : ℕ) → total g ≤ s.blocks → IsSomeAnd s.told (λ t. MayBegin g s.counter t.image) → IfSome s.told (λ t. misfit g s.blocks t.image ≡ Some (given, found)) → ⊥

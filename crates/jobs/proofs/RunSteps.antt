@@ -8,8 +8,8 @@ use Rattle.vol_base.specs.laws.BytesLaws.{number_at-behind, number_at-zeros}
 use Rattle.vol_layout.specs.declared.geometry.Geometry.{Geometry}
 use Rattle.vol_layout.specs.Regions.{total}
 use Rattle.shared_disk.specs.Prefixes.{EachImage, Prefixes}
-use Rattle.shared_disk.specs.Calls.{next_key}
-use Rattle.shared_disk.specs.State.{State, Told}
+use Rattle.shared_disk.specs.Calls.{next_key, last_counter}
+use Rattle.shared_disk.specs.State.{OnImages, State, Told, with_told}
 use Rattle.shared_disk.specs.laws.PrefixLaws.{EachImage-ends}
 use Rattle.plain_files.specs.declared.history.Placed.{Placed}
 use Rattle.plain_files.specs.Plain.{Plain}
@@ -25,11 +25,11 @@ use Rattle.image_view.specs.declared.usage.Usage.{Usage}
 use Rattle.image_view.specs.Usages.{usage_of}
 use Rattle.image_view.specs.Valid.{IsValid}
 use Rattle.histories.specs.Fit.{Fits}
-use Rattle.volume_check.specs.Visits.{IsVisiting, after_visit}
+use Rattle.shared_disk.specs.Visits.{IsVisiting, after_visit}
 use Rattle.volume_opening.specs.declared.open_no.OpenNo.{OpenNo}
 use Rattle.volume_opening.specs.declared.open_no.OpenNo.TheVariants as openings
 use Rattle.volume_opening.specs.laws.OpeningLaws.{opening_keeps_files}
-use Rattle.volume_opening.specs.Openings.{IsOnTheWay, IsOpened, IsVisited, WasBlank, with_told}
+use Rattle.volume_opening.specs.Openings.{IsOnTheWay, IsOpened, IsVisited, WasBlank}
 use Rattle.volume_opening.specs.Refusals.{IsLeft, IsRefused}
 use Rattle.volume_opening.specs.Slots.{AreIdle, IsFirstHeld, IsSlotPlace}
 use Rattle.report.specs.Reports.{report}
@@ -39,12 +39,11 @@ use Rattle.first_run.specs.declared.seat.Seat.TheVariants as seats
 use Rattle.first_run.specs.Runs.{IsUnheld, Leads, LeadsFiles, Steps}
 use Rattle.first_run.specs.Uncut.{AreUncut}
 use Rattle.first_run.specs.laws.KeyLaws.{keys-more, keys-same}
-use Rattle.first_run.specs.Seats.{KeepsKeys, HasVolume, OnImages, owed_of, run_state}
-use Rattle.jobs.specs.declared.outcome.NoSurvey.{NoSurvey}
+use Rattle.first_run.specs.Seats.{KeepsKeys, HasVolume, owed_of, run_state}
+use Rattle.jobs.specs.declared.outcome.AfterRun.{AfterRun}
 use Rattle.jobs.specs.declared.outcome.Outcome.{Outcome}
 use Rattle.jobs.specs.declared.outcome.Outcome.TheVariants as outcomes
-use Rattle.jobs.specs.Checks.{last_counter}
-use Rattle.jobs.specs.Endings.{DiskSeen, disk_seen}
+use Rattle.shared_disk.specs.Seen.{DiskSeen}
 use Rattle.jobs.specs.Runs.{Concludes, FindsHeld, IsOutOfMemory, IsReportOr, IsReportWithoutOr, IsRunOf, IsUnopened, IsUnsurveyedFor, Opens, Run, RunDecides, unopened}
 
 -- the slots of a formatted volume are free
@@ -55,9 +54,11 @@ slot-formatted g image h formatted below =
     ∙ (number_at-behind 8 8 (codes "DEDESLOT") (zeros 4088) ∙ number_at-zeros 8 8 4088)
 
 -- the clauses of an opening that was done
-pub opened_device : (g : Geometry) (s t : State) (a b : ℕ) → s.counter ≢ last_counter → total g ≤ s.blocks → IsOpened g s t → IsVisited s t
-    → EachImage (IsOnTheWay g s.told) s.told t.told → ((WasBlank s.told → ⊥) → t.told ≡ s.told) → a ≤ b → Opens g (disk_seen s a) (disk_seen t b)
-opened_device g s t a b keys long opened visited images used later = record {
+pub opened_device : (g : Geometry) (old new : DiskSeen) → old.state.counter ≢ last_counter → total g ≤ old.state.blocks
+    → IsOpened g old.state new.state → IsVisited old.state new.state
+    → EachImage (IsOnTheWay g old.state.told) old.state.told new.state.told → ((WasBlank old.state.told → ⊥) → new.state.told ≡ old.state.told)
+    → old.faults ≤ new.faults → Opens g old new
+opened_device g old new keys long opened visited images used later = record {
   keys = keys;
   long = long;
   opened = opened;
@@ -67,10 +68,12 @@ opened_device g s t a b keys long opened visited images used later = record {
 }
 
 -- and of one that was refused
-pub unopened_device : (g : Geometry) (s t : State) (a b : ℕ) (result : Result (Option ℕ) OpenNo) (cause : OpenNo) → result ≡ Err cause
-    → ((result ≡ Err openings.NoKeys) ↔ (s.counter ≡ last_counter)) → (result ≡ Err openings.Failed → Rose a b) → IsRefused g s t cause → IsLeft s t cause
-    → EachImage (IsOnTheWay g s.told) s.told t.told → ((WasBlank s.told → ⊥) → t.told ≡ s.told) → IsUnopened g (disk_seen s a) (disk_seen t b) cause
-unopened_device g s t a b result cause is keys failed refused left images used = record {
+pub unopened_device : (g : Geometry) (old new : DiskSeen) (result : Result (Option ℕ) OpenNo) (cause : OpenNo) → result ≡ Err cause
+    → ((result ≡ Err openings.NoKeys) ↔ (old.state.counter ≡ last_counter)) → (result ≡ Err openings.Failed → Rose old.faults new.faults)
+    → IsRefused g old.state new.state cause → IsLeft old.state new.state cause
+    → EachImage (IsOnTheWay g old.state.told) old.state.told new.state.told → ((WasBlank old.state.told → ⊥) → new.state.told ≡ old.state.told)
+    → IsUnopened g old new cause
+unopened_device g old new result cause is keys failed refused left images used = record {
   keys = (λ e. keys.0 (is ∙ ap (λ no. Err no) e), λ e. let no = keys.1 e in cc);
   refused = refused;
   left = left;
@@ -232,11 +235,11 @@ reported w answers history closed new usage (outcomes.Done report) visiting is c
 reported w answers history closed new usage outcomes.Memory visiting is counted keys left = visiting
 reported w answers history closed new usage _ visiting is counted keys left = absurd is
 
-pub reported_without : (w : Workload) (answers : List (Option Answer)) (history : List Placed) (closed new : DiskSeen) (cause : NoSurvey) (outcome : Outcome)
-    → IsVisiting closed.state new.state → IsReportWithoutOr (report w answers history None) cause outcome → IsUnsurveyedFor closed new cause → Concludes w answers history closed new outcome
+pub reported_without : (w : Workload) (answers : List (Option Answer)) (history : List Placed) (closed new : DiskSeen) (cause : AfterRun) (outcome : Outcome)
+    → IsVisiting closed.state new.state → IsReportWithoutOr (report w answers history None) cause outcome → IsUnsurveyedFor w.geometry closed new cause → Concludes w answers history closed new outcome
 reported_without w answers history closed new cause (outcomes.Unsurveyed report given) visiting is refused = record {
   text = is.0;
-  refused = let P : NoSurvey → Type 0 = λ no. IsUnsurveyedFor closed new no in subst P (sym is.1) refused;
+  refused = let P : AfterRun → Type 0 = λ no. IsUnsurveyedFor w.geometry closed new no in subst P (sym is.1) refused;
   visiting = visiting;
 }
 reported_without w answers history closed new cause outcomes.Memory visiting is refused = visiting

@@ -1,12 +1,12 @@
 -- How the job that runs a workload ends, by what it decided.
-use Rattle.std.proofs.Common.{◌≡◌, ◌⊎◌, ◌++◌, ◌∙◌, ◌<◌, ℕ, List, Option, Some, None, Ok, Err, Result, IsSomeAnd, inl, inr, refl, sym, ap, subst, length, append-nil, length-append, arith}
+use Rattle.std.proofs.Common.{◌≡◌, ◌⊎◌, ◌++◌, ◌∙◌, ◌+◌, ◌<◌, ℕ, List, Option, Some, None, Ok, Err, Result, IsSomeAnd, inl, inr, refl, sym, ap, subst, length, append-nil, length-append, arith}
 use Rattle.std.specs.Io.KnownBytes.{Appends, Consumes, IsAtEnd}
 use Rattle.vol_base.specs.Faults.{Rose}
 use Rattle.first_run.specs.Runs.{Leads}
-use Rattle.first_run.specs.Seats.{OnImages}
+use Rattle.shared_disk.specs.State.{OnImages}
 use Rattle.workload.specs.declared.line.Workload.{Workload}
 use Rattle.workload.specs.Grammar.{Refusal, most_bytes}
-use Rattle.jobs.specs.declared.outcome.NoSurvey.TheVariants as surveys
+use Rattle.jobs.specs.declared.outcome.AfterRun.TheVariants as after_runs
 use Rattle.jobs.specs.declared.outcome.Outcome.{Outcome}
 use Rattle.jobs.specs.declared.outcome.Outcome.TheVariants as outcomes
 use Rattle.jobs.specs.declared.outcome.VolumeNo.{VolumeNo}
@@ -14,13 +14,13 @@ use Rattle.jobs.specs.declared.outcome.VolumeNo.TheVariants as refusals
 use Rattle.jobs.specs.declared.status.Status.{Status}
 use Rattle.jobs.specs.declared.status.Status.TheVariants as statuses
 use Rattle.jobs.specs.Built.{built_workload_of}
-use Rattle.jobs.specs.Endings.{DiskSeen, Ends, IsSmooth, IsWritten, SinkSeen}
-use Rattle.jobs.specs.Endings.{Told as IsTold}
+use Rattle.shared_disk.specs.Seen.{DiskSeen}
+use Rattle.jobs.specs.Endings.{Ends, IsSmooth, IsWritten, SinkSeen, IsTold}
 use Rattle.jobs.specs.Outcomes.{outcome_text, status_of}
 use Rattle.jobs.specs.Runs.{IsRefusable, IsUnfit, IsYieldedTo, KeepsImages, RunDecides, RunRefuses}
 use Rattle.jobs.specs.Seen.{Seen}
 use Rattle.jobs.specs.Simulations.{FailsToOpen, FailsToRead, CutsShort, IsPastReading, IsRun, GivesText, IsReadyToRun, IsYielding, LeavesFiles, RefusesGeometry, RefusesText, RefusesVolume, ReportsRun, SimDecides, SimEnds, StopsAtSurvey}
-use Rattle.jobs.specs.Sources.{IsRead, SourceSeen, StopsReading}
+use Rattle.jobs.specs.Sources.{IsRead, SourceSeen, StopsReading, TakesAtMost}
 use Rattle.jobs.proofs.ReadingLaws.{too_long}
 use Rattle.jobs.proofs.RunLaws.{run_completes, run_refusable, run_unfit}
 use Rattle.jobs.proofs.RunSteps.{some_leads}
@@ -95,9 +95,9 @@ written before after status ends not_cut told_some = written_of before.sink afte
 -- the outcome behind the status Ok
 reports : (before after : Seen) (outcome : Outcome) → RunsTo before after outcome → IsOk (status_of outcome) → Prints before after outcome → ReportsRun before after
 reports before after (outcomes.Done report) run is text = record { workload = run.workload; read = run.read; report = report.items; done = run.decides; text = text }
-reports before after (outcomes.Unsurveyed report surveys.DiskFault) run is text = absurd is
-reports before after (outcomes.Unsurveyed report (surveys.NoKeys counter)) run is text = absurd is
-reports before after (outcomes.Unsurveyed report (surveys.Misread place)) run is text = absurd is
+reports before after (outcomes.Unsurveyed report after_runs.DiskFault) run is text = absurd is
+reports before after (outcomes.Unsurveyed report (after_runs.NoKeys counter)) run is text = absurd is
+reports before after (outcomes.Unsurveyed report (after_runs.Misread place)) run is text = absurd is
 reports before after _ run is text = absurd is
 
 sim_ok : (before after : Seen) (status : Status) → EndsSo before after status → status ≡ statuses.Ok → ReportsRun before after
@@ -111,11 +111,11 @@ refuses_volume : (before after : Seen) (outcome : Outcome) → RunsTo before aft
     → RefusesVolume before after ⊎ StopsAtSurvey before after statuses.Volume
 refuses_volume before after (outcomes.Volume refusal) run is text =
     inl (record { workload = run.workload; read = run.read; refusal = refusal; refused = run.decides; text = text })
-refuses_volume before after (outcomes.Unsurveyed report surveys.DiskFault) run is text = absurd is
-refuses_volume before after (outcomes.Unsurveyed report (surveys.NoKeys counter)) run is text =
-    inr (record { workload = run.workload; read = run.read; report = report.items; cause = surveys.NoKeys counter; is = refl; unsurveyed = run.decides; text = text })
-refuses_volume before after (outcomes.Unsurveyed report (surveys.Misread place)) run is text =
-    inr (record { workload = run.workload; read = run.read; report = report.items; cause = surveys.Misread place; is = refl; unsurveyed = run.decides; text = text })
+refuses_volume before after (outcomes.Unsurveyed report after_runs.DiskFault) run is text = absurd is
+refuses_volume before after (outcomes.Unsurveyed report (after_runs.NoKeys counter)) run is text =
+    inr (record { workload = run.workload; read = run.read; report = report.items; cause = after_runs.NoKeys counter; is = refl; unsurveyed = run.decides; text = text })
+refuses_volume before after (outcomes.Unsurveyed report (after_runs.Misread place)) run is text =
+    inr (record { workload = run.workload; read = run.read; report = report.items; cause = after_runs.Misread place; is = refl; unsurveyed = run.decides; text = text })
 refuses_volume before after _ run is text = absurd is
 
 sim_volume : (before after : Seen) (status : Status) → EndsSo before after status → status ≡ statuses.Volume
@@ -129,10 +129,10 @@ sim_volume before after status ends is =
 fails_on_device : (before after : Seen) (outcome : Outcome) → RunsTo before after outcome → IsDiskFault (status_of outcome) → Prints before after outcome
     → FailsToOpen before after ⊎ StopsAtSurvey before after statuses.DiskFault
 fails_on_device before after outcomes.DiskFault run is text = inl (record { workload = run.workload; read = run.read; failed = run.decides; text = text })
-fails_on_device before after (outcomes.Unsurveyed report surveys.DiskFault) run is text =
-    inr (record { workload = run.workload; read = run.read; report = report.items; cause = surveys.DiskFault; is = refl; unsurveyed = run.decides; text = text })
-fails_on_device before after (outcomes.Unsurveyed report (surveys.NoKeys counter)) run is text = absurd is
-fails_on_device before after (outcomes.Unsurveyed report (surveys.Misread place)) run is text = absurd is
+fails_on_device before after (outcomes.Unsurveyed report after_runs.DiskFault) run is text =
+    inr (record { workload = run.workload; read = run.read; report = report.items; cause = after_runs.DiskFault; is = refl; unsurveyed = run.decides; text = text })
+fails_on_device before after (outcomes.Unsurveyed report (after_runs.NoKeys counter)) run is text = absurd is
+fails_on_device before after (outcomes.Unsurveyed report (after_runs.Misread place)) run is text = absurd is
 fails_on_device before after _ run is text = absurd is
 
 sim_disk_fault : (before after : Seen) (status : Status) → EndsSo before after status → status ≡ statuses.DiskFault
@@ -147,9 +147,9 @@ refuses_geometry : (before after : Seen) (outcome : Outcome) → RunsTo before a
     → RefusesGeometry before after
 refuses_geometry before after (outcomes.Geometry given found) run is text =
     record { workload = run.workload; read = run.read; given = given; found = found; refused = run.decides; text = text }
-refuses_geometry before after (outcomes.Unsurveyed report surveys.DiskFault) run is text = absurd is
-refuses_geometry before after (outcomes.Unsurveyed report (surveys.NoKeys counter)) run is text = absurd is
-refuses_geometry before after (outcomes.Unsurveyed report (surveys.Misread place)) run is text = absurd is
+refuses_geometry before after (outcomes.Unsurveyed report after_runs.DiskFault) run is text = absurd is
+refuses_geometry before after (outcomes.Unsurveyed report (after_runs.NoKeys counter)) run is text = absurd is
+refuses_geometry before after (outcomes.Unsurveyed report (after_runs.Misread place)) run is text = absurd is
 refuses_geometry before after _ run is text = absurd is
 
 sim_geometry : (before after : Seen) (status : Status) → EndsSo before after status → status ≡ statuses.Geometry → RefusesGeometry before after
@@ -164,9 +164,9 @@ refuses_text : (before after : Seen) (outcome : Outcome) → Decided before afte
 refuses_text before after (outcomes.Workload line cause) (inl stopped) is text =
     record { line = line; cause = cause; refused = stopped.stops; untouched = stopped.untouched; text = text }
 refuses_text before after (outcomes.Workload line cause) (inr run) is text = absurd run.decides
-refuses_text before after (outcomes.Unsurveyed report surveys.DiskFault) decided is text = absurd is
-refuses_text before after (outcomes.Unsurveyed report (surveys.NoKeys counter)) decided is text = absurd is
-refuses_text before after (outcomes.Unsurveyed report (surveys.Misread place)) decided is text = absurd is
+refuses_text before after (outcomes.Unsurveyed report after_runs.DiskFault) decided is text = absurd is
+refuses_text before after (outcomes.Unsurveyed report (after_runs.NoKeys counter)) decided is text = absurd is
+refuses_text before after (outcomes.Unsurveyed report (after_runs.Misread place)) decided is text = absurd is
 refuses_text before after _ decided is text = absurd is
 
 sim_workload : (before after : Seen) (status : Status) → EndsSo before after status → status ≡ statuses.Workload → RefusesText before after
@@ -179,9 +179,9 @@ fails_to_read : (before after : Seen) (outcome : Outcome) → Decided before aft
     → FailsToRead before after
 fails_to_read before after outcomes.ReadFault (inl stopped) is text = record { rose = stopped.stops; untouched = stopped.untouched; text = text }
 fails_to_read before after outcomes.ReadFault (inr run) is text = absurd run.decides
-fails_to_read before after (outcomes.Unsurveyed report surveys.DiskFault) decided is text = absurd is
-fails_to_read before after (outcomes.Unsurveyed report (surveys.NoKeys counter)) decided is text = absurd is
-fails_to_read before after (outcomes.Unsurveyed report (surveys.Misread place)) decided is text = absurd is
+fails_to_read before after (outcomes.Unsurveyed report after_runs.DiskFault) decided is text = absurd is
+fails_to_read before after (outcomes.Unsurveyed report (after_runs.NoKeys counter)) decided is text = absurd is
+fails_to_read before after (outcomes.Unsurveyed report (after_runs.Misread place)) decided is text = absurd is
 fails_to_read before after _ decided is text = absurd is
 
 sim_read_fault : (before after : Seen) (status : Status) → EndsSo before after status → status ≡ statuses.ReadFault → FailsToRead before after
@@ -193,9 +193,9 @@ sim_read_fault before after status ends is =
 not_usage : (before after : Seen) (outcome : Outcome) → Decided before after outcome → IsUsage (status_of outcome) → ⊥
 not_usage before after outcomes.Usage (inl stopped) is = stopped.stops
 not_usage before after outcomes.Usage (inr run) is = run.decides
-not_usage before after (outcomes.Unsurveyed report surveys.DiskFault) decided is = is
-not_usage before after (outcomes.Unsurveyed report (surveys.NoKeys counter)) decided is = is
-not_usage before after (outcomes.Unsurveyed report (surveys.Misread place)) decided is = is
+not_usage before after (outcomes.Unsurveyed report after_runs.DiskFault) decided is = is
+not_usage before after (outcomes.Unsurveyed report (after_runs.NoKeys counter)) decided is = is
+not_usage before after (outcomes.Unsurveyed report (after_runs.Misread place)) decided is = is
 not_usage before after _ decided is = is
 
 sim_statuses : (before after : Seen) (status : Status) → EndsSo before after status → status ≡ statuses.Usage → ⊥
@@ -345,8 +345,9 @@ sim_complete before after status ends ready quiet smooth =
       | inr memory ↦ inr memory
     ]
 
-pub sim_ends : (before after : Seen) (status : Status) → EndsSo before after status → after.disk.state.blocks ≡ before.disk.state.blocks → SimEnds before after status
-sim_ends before after status ends blocks = record {
+pub sim_ends : (before after : Seen) (status : Status) → EndsSo before after status → after.disk.state.blocks ≡ before.disk.state.blocks
+    → TakesAtMost (most_bytes + 1) before.source after.source → SimEnds before after status
+sim_ends before after status ends blocks taken = record {
   ends = ends;
   not_usage = sim_statuses before after status ends;
   ok = sim_ok before after status ends;
@@ -357,6 +358,7 @@ sim_ends before after status ends blocks = record {
   write_fault = sim_write_fault before after status ends;
   geometry = sim_geometry before after status ends;
   accepted = sim_accepted before after status ends;
+  taken = taken;
   files = sim_files before after ends.outcome ends.decided;
   blocks = blocks;
   refusable_text = λ refusal gives.

@@ -1,12 +1,11 @@
 -- What a status says of the outcome that was told.
 use Rattle.std.proofs.Common.{◌≡◌, ◌⊎◌, ◌∙◌, inl, inr, sym, subst}
-use Rattle.jobs.specs.declared.outcome.NoSurvey.TheVariants as surveys
+use Rattle.jobs.specs.declared.outcome.AfterRun.TheVariants as after_runs
 use Rattle.jobs.specs.declared.outcome.Outcome.{Outcome}
 use Rattle.jobs.specs.declared.outcome.Outcome.TheVariants as outcomes
 use Rattle.jobs.specs.declared.status.Status.{Status}
 use Rattle.jobs.specs.declared.status.Status.TheVariants as statuses
-use Rattle.jobs.specs.Endings.{HasRefused, IsCutShort, IsWritten, SinkSeen}
-use Rattle.jobs.specs.Endings.{Told as IsTold}
+use Rattle.jobs.specs.Endings.{HasRefused, IsCutShort, IsWritten, SinkSeen, IsTold}
 use Rattle.jobs.specs.Outcomes.{status_of}
 
 -- a sink that does not refuse lets an outcome come to its status, where memory serves
@@ -29,9 +28,9 @@ IsWriteFault status = ⊥
 
 -- no outcome has the status WriteFault
 not_decided : (outcome : Outcome) → IsWriteFault (status_of outcome) → ⊥
-not_decided (outcomes.Unsurveyed report surveys.DiskFault) is = is
-not_decided (outcomes.Unsurveyed report (surveys.NoKeys counter)) is = is
-not_decided (outcomes.Unsurveyed report (surveys.Misread place)) is = is
+not_decided (outcomes.Unsurveyed report after_runs.DiskFault) is = is
+not_decided (outcomes.Unsurveyed report (after_runs.NoKeys counter)) is = is
+not_decided (outcomes.Unsurveyed report (after_runs.Misread place)) is = is
 not_decided _ is = is
 
 -- so that behind it the sink refused

@@ -1,23 +1,26 @@
 -- What the job that checks a volume decides.
-use Rattle.std.specs.Prelude.{◌≡◌, ◌≢◌, ◌⊎◌, ◌+◌, ◌-◌, ◌<◌, ◌^◌, ◌++◌, ◌∷◌, [], ℕ, List, IfSome, IsNone, IsSomeAnd, Option, codes}
+use Rattle.std.specs.Prelude.{◌≡◌, ◌≢◌, ◌⊎◌, ◌+◌, ◌<◌, ◌^◌, ◌++◌, ◌∷◌, [], ℕ, List, IfSome, IsNone, IsSomeAnd, None, Option, codes}
 use Rattle.std.specs.Io.KnownBytes.{Appends}
 use Rattle.image_view.specs.declared.usage.Usage.{Usage}
 use Rattle.image_view.specs.Images.{IsBlank}
 use Rattle.image_view.specs.Usages.{usage_of}
 use Rattle.image_view.specs.Valid.{IsVolume}
 use Rattle.report.specs.Reports.{usage_line}
+use Rattle.shared_disk.specs.Calls.{last_counter}
 use Rattle.shared_disk.specs.State.{State}
 use Rattle.vol_base.specs.Faults.{Rose}
-use Rattle.volume_check.specs.Visits.{IsVisiting, after_visit}
+use Rattle.shared_disk.specs.Visits.{IsVisiting, after_visit}
 use Rattle.volume_faults.specs.declared.fault.Fault.{Fault}
+use Rattle.vol_layout.specs.declared.geometry.Geometry.{Geometry}
 use Rattle.volume_faults.specs.Faults.{AreFaults}
+use Rattle.volume_faults.specs.ReadPlaces.{IsReadPlace}
 use Rattle.jobs.specs.declared.outcome.Outcome.{Outcome}
 use Rattle.jobs.specs.declared.outcome.Outcome.TheVariants as outcomes
 use Rattle.jobs.specs.declared.outcome.VolumeNo.{VolumeNo}
 use Rattle.jobs.specs.declared.outcome.VolumeNo.TheVariants as refusals
 use Rattle.jobs.specs.declared.status.Status.{Status}
 use Rattle.jobs.specs.declared.status.Status.TheVariants as statuses
-use Rattle.jobs.specs.Endings.{DiskSeen}
+use Rattle.shared_disk.specs.Seen.{DiskSeen}
 use Rattle.jobs.specs.Outcomes.{refusal_text}
 
 -- the two lines of a valid volume
@@ -27,10 +30,6 @@ valid_text usage = codes "valid" ++ 10 ∷ [] ++ (usage_line usage ++ 10 ∷ [])
 -- the counter under which a volume is checked: that behind the registration of the check
 abbrev pub checked_counter : State → ℕ
 checked_counter s = s.counter + 1
-
--- the counter behind which a device gives no key
-abbrev pub last_counter : ℕ
-last_counter = 2 ^ 59 - 1
 
 -- the image that the device tells, if any, is a valid volume
 abbrev pub TellsVolume : State → Type 0
@@ -66,9 +65,11 @@ pub record FindsNoKeys (s : State) (counter : ℕ) : Type 0 where
   pub last : counter ≡ last_counter
   pub met : (s.counter ≡ last_counter) ⊎ ((s.counter + 1 ≡ last_counter) × TellsVolume s)
 
--- a device that does not tell its image gave a block that is not of its kind, behind a check without a fault
-pub record FindsMisread (old new : State) : Type 0 where
+-- a device that does not tell its image gave a block that is not of its kind, behind a check without a fault; the place
+-- is one that is read of a volume
+pub record FindsMisread (old new : State) (place : ℕ) : Type 0 where
   pub untold : IsNone old.told
+  pub read : IsReadPlace None old.blocks place
   pub left : new ≡ after_visit (after_visit old)
 
 -- why a check refuses a volume
@@ -78,7 +79,7 @@ CheckRefuses old new refusals.Blank = FindsBlank old new
 CheckRefuses old new (refusals.NoKeys counter) = FindsNoKeys old counter
 CheckRefuses old new (refusals.Busy key) = ⊥
 CheckRefuses old new (refusals.Held place) = ⊥
-CheckRefuses old new (refusals.Misread place) = FindsMisread old new
+CheckRefuses old new (refusals.Misread place) = FindsMisread old new place
 
 -- what a check decides; of a want of memory nothing is said
 abbrev pub CheckDecides : DiskSeen → DiskSeen → Outcome → Type 0
@@ -97,9 +98,11 @@ pub record FindsUsage (old new : State) (report : List ℕ) : Type 0 where
   pub used : ReportsUsage old report
   pub left : new ≡ after_visit old
 
--- a device that does not tell its image gave a block that is not of its kind
-pub record FindsBad (old new : State) : Type 0 where
+-- a device that does not tell its image gave a block that is not of its kind; the place is one that is read of a
+-- volume of the expected geometry, or of any where none is expected
+pub record FindsBad (expected : Option Geometry) (old new : State) (place : ℕ) : Type 0 where
   pub untold : IsNone old.told
+  pub read : IsReadPlace expected old.blocks place
   pub left : new ≡ after_visit old
 
 -- the counter is at its end
@@ -114,7 +117,7 @@ SurveyRefuses old new refusals.Blank = ⊥
 SurveyRefuses old new (refusals.NoKeys counter) = IsAtLast old counter
 SurveyRefuses old new (refusals.Busy key) = ⊥
 SurveyRefuses old new (refusals.Held place) = ⊥
-SurveyRefuses old new (refusals.Misread place) = FindsBad old new
+SurveyRefuses old new (refusals.Misread place) = FindsBad None old new place
 
 -- what the survey of a valid volume decides
 abbrev pub SurveyDecides : DiskSeen → DiskSeen → Outcome → Type 0

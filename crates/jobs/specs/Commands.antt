@@ -1,6 +1,7 @@
 -- How the program ends, by its words.
 use Rattle.std.specs.Prelude.{◌≡◌, ◌⊎◌, Option, Some, None}
 use Rattle.std.specs.Io.KnownBytes.{Appends}
+use Rattle.shared_disk.specs.Seen.{DiskSeen}
 use Rattle.vol_base.specs.Faults.{Rose}
 use Rattle.jobs.specs.declared.outcome.Outcome.TheVariants as outcomes
 use Rattle.jobs.specs.declared.status.Status.{Status}
@@ -8,30 +9,33 @@ use Rattle.jobs.specs.declared.status.Status.TheVariants as statuses
 use Rattle.jobs.specs.declared.words.Job.{Job}
 use Rattle.jobs.specs.declared.words.Job.TheVariants.{Sim, Check}
 use Rattle.jobs.specs.Checks.{AreVisits, CheckDecides, IsCheckStatus, IsReady, PrintsRefusal, PrintsValid}
-use Rattle.jobs.specs.Endings.{Ends, HasRefused, IsSmooth, Told}
+use Rattle.jobs.specs.Endings.{Ends, HasRefused, IsSmooth, IsTold, SinkSeen}
 use Rattle.jobs.specs.Outcomes.{outcome_text}
 use Rattle.jobs.specs.Seen.{Seen}
 use Rattle.jobs.specs.Simulations.{SimEnds}
 
 -- the job that checks a volume ends with this status
-pub record CheckEnds (before after : Seen) (status : Status) : Type 0 where
+pub record CheckEnds (old new : DiskSeen) (before after : SinkSeen) (status : Status) : Type 0 where
   -- an outcome is decided, and then told
-  pub ends : Ends (CheckDecides before.disk after.disk) before.sink after.sink status
+  pub ends : Ends (CheckDecides old new) before after status
   -- so each status has its cause
   pub among : IsCheckStatus status
-  pub ok : status ≡ statuses.Ok → PrintsValid before.disk.state after.disk.state before.sink.taken after.sink.taken
-  pub volume : status ≡ statuses.Volume → PrintsRefusal before.disk.state after.disk.state before.sink.taken after.sink.taken
-  pub disk_fault : status ≡ statuses.DiskFault → Rose before.disk.faults after.disk.faults
-  pub write_fault : status ≡ statuses.WriteFault → HasRefused before.sink after.sink
-  -- whatever the status, the source is untouched, and the device holds what it held
-  pub source : after.source ≡ before.source
-  pub told : after.disk.state.told ≡ before.disk.state.told
-  pub blocks : after.disk.state.blocks ≡ before.disk.state.blocks
+  pub ok : status ≡ statuses.Ok → PrintsValid old.state new.state before.taken after.taken
+  pub volume : status ≡ statuses.Volume → PrintsRefusal old.state new.state before.taken after.taken
+  pub disk_fault : status ≡ statuses.DiskFault → Rose old.faults new.faults
+  pub write_fault : status ≡ statuses.WriteFault → HasRefused before after
+  -- whatever the status, the device holds what it held
+  pub told : new.state.told ≡ old.state.told
+  pub blocks : new.state.blocks ≡ old.state.blocks
   -- its keys are those that the visits of the check and of the survey leave
-  pub visits : AreVisits before.disk.state after.disk.state
+  pub visits : AreVisits old.state new.state
   -- without a fault a valid volume is found valid, where memory serves
-  pub complete : IsReady before.disk.state → IsSmooth before.disk after.disk before.sink after.sink
-      → (status ≡ statuses.Ok) ⊎ (status ≡ statuses.Memory)
+  pub complete : IsReady old.state → IsSmooth old new before after → (status ≡ statuses.Ok) ⊎ (status ≡ statuses.Memory)
+
+-- words that ask for a check: the source is untouched
+pub record ChecksAlone (before after : Seen) (status : Status) : Type 0 where
+  pub source : after.source ≡ before.source
+  pub check : CheckEnds before.disk after.disk before.sink after.sink status
 
 -- the statuses of words that are of no form
 abbrev pub IsUsageStatus : Status → Type 0
@@ -47,7 +51,7 @@ IsUsageStatus statuses.Geometry = ⊥
 
 -- words that are of no form end with this status: source and device are untouched
 pub record UsageEnds (before after : Seen) (status : Status) : Type 0 where
-  pub told : Told before.sink after.sink outcomes.Usage status
+  pub told : IsTold before.sink after.sink outcomes.Usage status
   pub among : IsUsageStatus status
   pub usage : status ≡ statuses.Usage → Appends before.sink.taken after.sink.taken (outcome_text outcomes.Usage)
   pub write_fault : status ≡ statuses.WriteFault → HasRefused before.sink after.sink
@@ -58,4 +62,4 @@ pub record UsageEnds (before after : Seen) (status : Status) : Type 0 where
 abbrev pub CommandEnds : Option Job → Seen → Seen → Status → Type 0
 CommandEnds None = UsageEnds
 CommandEnds (Some Sim) = SimEnds
-CommandEnds (Some Check) = CheckEnds
+CommandEnds (Some Check) = ChecksAlone

@@ -1,7 +1,7 @@
 -- How a job ends: it decides an outcome, and tells it.
 use Rattle.std.specs.Prelude.{◌≡◌, ◌⊎◌, ℕ, List, Option}
 use Rattle.std.specs.Io.KnownBytes.{Appends}
-use Rattle.shared_disk.specs.State.{State}
+use Rattle.shared_disk.specs.Seen.{DiskSeen}
 use Rattle.vol_base.specs.Faults.{Rose}
 use Rattle.vol_io.specs.Writes.{AppendsFront}
 use Rattle.jobs.specs.declared.outcome.Outcome.{Outcome}
@@ -9,23 +9,12 @@ use Rattle.jobs.specs.declared.status.Status.{Status}
 use Rattle.jobs.specs.declared.status.Status.TheVariants as statuses
 use Rattle.jobs.specs.Outcomes.{outcome_text, status_of}
 
--- a device, and how often it failed
-pub record DiskSeen : Type 0 where
-  pub state : State
-  pub faults : ℕ
-
-abbrev pub disk_seen : State → ℕ → DiskSeen
-disk_seen state faults = record { state = state; faults = faults }
-
 -- a sink: the bytes that it took, where it tells them, how often it failed, and how often it took nothing of a piece
 -- that is not empty
 pub record SinkSeen : Type 0 where
   pub taken : Option (List ℕ)
   pub faults : ℕ
   pub refusals : ℕ
-
-abbrev pub sink_seen : Option (List ℕ) → ℕ → ℕ → SinkSeen
-sink_seen taken faults refusals = record { taken = taken; faults = faults; refusals = refusals }
 
 -- the sink failed, or took nothing of a piece that is not empty
 abbrev pub HasRefused : SinkSeen → SinkSeen → Type 0
@@ -48,15 +37,15 @@ pub record IsUnwritten (before after : SinkSeen) (status : Status) : Type 0 wher
   pub same : after ≡ before
 
 -- an outcome is told: its text is written, or the sink refuses, or there is no memory for the text
-abbrev pub Told : SinkSeen → SinkSeen → Outcome → Status → Type 0
-Told before after outcome status =
+abbrev pub IsTold : SinkSeen → SinkSeen → Outcome → Status → Type 0
+IsTold before after outcome status =
     IsWritten before after outcome status ⊎ (IsCutShort before after outcome status ⊎ IsUnwritten before after status)
 
 -- a job that decided an outcome of this kind and told it
 pub record Ends (Decided : Outcome → Type 0) (before after : SinkSeen) (status : Status) : Type 0 where
   pub outcome : Outcome
   pub decided : Decided outcome
-  pub told : Told before after outcome status
+  pub told : IsTold before after outcome status
 
 -- no call of the device and of the sink failed, and the sink took something of each piece that is not empty
 pub record IsSmooth (old new : DiskSeen) (before after : SinkSeen) : Type 0 where

@@ -4,8 +4,8 @@ use Rattle.volume_faults.specs.declared.fault.FaultKind.TheVariants.{Spelling}
 use Rattle.volume_faults.specs.Texts.{faults_text}
 use Rattle.workload.specs.declared.cause.WorkloadNo.{WorkloadNo}
 use Rattle.workload.specs.declared.cause.WorkloadNo.TheVariants as causes
-use Rattle.jobs.specs.declared.outcome.NoSurvey.{NoSurvey}
-use Rattle.jobs.specs.declared.outcome.NoSurvey.TheVariants as surveys
+use Rattle.jobs.specs.declared.outcome.AfterRun.{AfterRun}
+use Rattle.jobs.specs.declared.outcome.AfterRun.TheVariants as after_runs
 use Rattle.jobs.specs.declared.outcome.Outcome.{Outcome}
 use Rattle.jobs.specs.declared.outcome.Outcome.TheVariants as outcomes
 use Rattle.jobs.specs.declared.outcome.VolumeNo.{VolumeNo}
@@ -14,10 +14,10 @@ use Rattle.jobs.specs.declared.status.Status.{Status}
 use Rattle.jobs.specs.declared.status.Status.TheVariants as statuses
 
 -- the status of a run whose survey was refused
-abbrev pub survey_status : NoSurvey → Status
-survey_status surveys.DiskFault = statuses.DiskFault
-survey_status (surveys.NoKeys counter) = statuses.Volume
-survey_status (surveys.Misread place) = statuses.Volume
+abbrev pub survey_status : AfterRun → Status
+survey_status after_runs.DiskFault = statuses.DiskFault
+survey_status (after_runs.NoKeys counter) = statuses.Volume
+survey_status (after_runs.Misread place) = statuses.Volume
 
 -- the status of a job that decided this
 abbrev pub status_of : Outcome → Status
@@ -59,8 +59,8 @@ geometry_line given found = codes "geometry " ++ decimal given ++ codes " " ++ d
 abbrev pub spelling_line : ℕ → List ℕ
 spelling_line place = faults_text (record { place = place; kind = Spelling } ∷ [])
 
-abbrev pub fault_line : List ℕ
-fault_line = codes "disk fault" ++ 10 ∷ []
+abbrev pub disk_fault_line : List ℕ
+disk_fault_line = codes "disk fault" ++ 10 ∷ []
 
 -- why a volume is refused
 abbrev pub refusal_text : VolumeNo → List ℕ
@@ -72,10 +72,10 @@ refusal_text (refusals.Held place) = spelling_line place
 refusal_text (refusals.Misread place) = spelling_line place
 
 -- why a survey was refused
-abbrev pub survey_text : NoSurvey → List ℕ
-survey_text surveys.DiskFault = fault_line
-survey_text (surveys.NoKeys counter) = keys_line counter
-survey_text (surveys.Misread place) = spelling_line place
+abbrev pub survey_text : AfterRun → List ℕ
+survey_text after_runs.DiskFault = disk_fault_line
+survey_text (after_runs.NoKeys counter) = keys_line counter
+survey_text (after_runs.Misread place) = spelling_line place
 
 -- the whole text of an outcome
 abbrev pub outcome_text : Outcome → List ℕ
@@ -84,7 +84,7 @@ outcome_text (outcomes.Unsurveyed report cause) = report.items ++ survey_text ca
 outcome_text outcomes.Usage = codes "usage: dede VOLUME JOB [ARGS]" ++ 10 ∷ []
 outcome_text (outcomes.Workload line cause) = workload_line line cause
 outcome_text (outcomes.Volume refusal) = refusal_text refusal
-outcome_text outcomes.DiskFault = fault_line
+outcome_text outcomes.DiskFault = disk_fault_line
 outcome_text outcomes.ReadFault = codes "read fault" ++ 10 ∷ []
 outcome_text outcomes.Memory = []
 outcome_text (outcomes.Geometry given found) = geometry_line given found

@@ -6,8 +6,8 @@ use Rattle.jobs.specs.declared.outcome.Outcome.{Outcome}
 use Rattle.jobs.specs.declared.outcome.Outcome.TheVariants as outcomes
 
 -- what is answered is what the text says, unless memory was refused
-abbrev pub Answers : Result Workload Refusal → Result Workload Outcome → Type 0
-Answers says (Ok workload) = says ≡ Ok workload
-Answers says (Err (outcomes.Workload line cause)) = says ≡ Err (line, cause)
-Answers says (Err outcomes.Memory) = Unit {0}
-Answers says (Err _) = ⊥
+abbrev pub IsReadingOf : Result Workload Refusal → Result Workload Outcome → Type 0
+IsReadingOf says (Ok workload) = says ≡ Ok workload
+IsReadingOf says (Err (outcomes.Workload line cause)) = says ≡ Err (line, cause)
+IsReadingOf says (Err outcomes.Memory) = Unit {0}
+IsReadingOf says (Err _) = ⊥

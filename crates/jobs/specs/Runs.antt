@@ -9,17 +9,17 @@ use Rattle.first_run.specs.declared.seat.Seat.{Seat}
 use Rattle.first_run.specs.declared.seat.Seat.TheVariants as seats
 use Rattle.first_run.specs.Runs.{IsUnheld, Leads, LeadsFiles, Steps}
 use Rattle.first_run.specs.Uncut.{AreUncut}
-use Rattle.first_run.specs.Seats.{KeepsKeys, HasVolume, OnImages, owed_of, run_state}
+use Rattle.first_run.specs.Seats.{KeepsKeys, HasVolume, owed_of, run_state}
 use Rattle.histories.specs.Fit.{Fits}
 use Rattle.plain_files.specs.declared.history.Placed.{Placed}
 use Rattle.report.specs.Reports.{report}
 use Rattle.shared_disk.specs.Prefixes.{EachImage}
-use Rattle.shared_disk.specs.State.{State, Told}
+use Rattle.shared_disk.specs.State.{OnImages, State, Told}
 use Rattle.vol_base.specs.declared.answer.Answer.{Answer}
 use Rattle.vol_base.specs.Faults.{Rose}
 use Rattle.vol_layout.specs.declared.geometry.Geometry.{Geometry}
 use Rattle.vol_layout.specs.Regions.{total}
-use Rattle.volume_check.specs.Visits.{IsVisiting, after_visit}
+use Rattle.shared_disk.specs.Visits.{IsVisiting, after_visit}
 use Rattle.volume_opening.specs.declared.open_no.OpenNo.{OpenNo}
 use Rattle.volume_opening.specs.declared.open_no.OpenNo.TheVariants as openings
 use Rattle.volume_opening.specs.Misfits.{misfit}
@@ -27,16 +27,17 @@ use Rattle.volume_opening.specs.Openings.{IsOnTheWay, IsOpened, IsVisited, WasBl
 use Rattle.volume_opening.specs.Refusals.{IsLeft, IsRefused}
 use Rattle.volume_opening.specs.Slots.{AreIdle, IsFirstHeld, IsSlotPlace}
 use Rattle.workload.specs.declared.line.Workload.{Workload}
-use Rattle.jobs.specs.declared.outcome.NoSurvey.{NoSurvey}
-use Rattle.jobs.specs.declared.outcome.NoSurvey.TheVariants as causes
+use Rattle.jobs.specs.declared.outcome.AfterRun.{AfterRun}
+use Rattle.jobs.specs.declared.outcome.AfterRun.TheVariants as after_runs
 use Rattle.jobs.specs.declared.outcome.Outcome.{Outcome}
 use Rattle.jobs.specs.declared.outcome.Outcome.TheVariants as outcomes
 use Rattle.jobs.specs.declared.outcome.VolumeNo.{VolumeNo}
 use Rattle.jobs.specs.declared.outcome.VolumeNo.TheVariants as refusals
 use Rattle.jobs.specs.declared.status.Status.{Status}
 use Rattle.jobs.specs.declared.status.Status.TheVariants as statuses
-use Rattle.jobs.specs.Checks.{FindsBad, IsAtLast, last_counter}
-use Rattle.jobs.specs.Endings.{DiskSeen}
+use Rattle.shared_disk.specs.Calls.{last_counter}
+use Rattle.jobs.specs.Checks.{FindsBad, IsAtLast}
+use Rattle.shared_disk.specs.Seen.{DiskSeen}
 
 -- the images of an opening: each is the one handed in, or, where that one is blank, one that is blank or formatted
 pub record KeepsImages (g : Geometry) (old new : DiskSeen) : Type 0 where
@@ -110,17 +111,17 @@ pub record IsReported (w : Workload) (answers : List (Option Answer)) (history :
   pub keys : closed.state.counter ≢ last_counter
   pub left : new.state ≡ after_visit closed.state
 
--- why a survey gave no usage
-abbrev pub IsUnsurveyedFor : DiskSeen → DiskSeen → NoSurvey → Type 0
-IsUnsurveyedFor closed new causes.DiskFault = (closed.state.counter ≢ last_counter) × Rose closed.faults new.faults
-IsUnsurveyedFor closed new (causes.NoKeys counter) = IsAtLast closed.state counter
-IsUnsurveyedFor closed new (causes.Misread place) = (closed.state.counter ≢ last_counter) × FindsBad closed.state new.state
+-- why the survey of a volume of this geometry gave no usage
+abbrev pub IsUnsurveyedFor : Geometry → DiskSeen → DiskSeen → AfterRun → Type 0
+IsUnsurveyedFor g closed new after_runs.DiskFault = (closed.state.counter ≢ last_counter) × Rose closed.faults new.faults
+IsUnsurveyedFor g closed new (after_runs.NoKeys counter) = IsAtLast closed.state counter
+IsUnsurveyedFor g closed new (after_runs.Misread place) = (closed.state.counter ≢ last_counter) × FindsBad (Some g) closed.state new.state place
 
 -- the survey was refused for this cause, its visit may have been broken off, and these bytes are the report without a
 -- usage
-pub record IsReportedWithout (w : Workload) (answers : List (Option Answer)) (history : List Placed) (closed new : DiskSeen) (bytes : List ℕ) (cause : NoSurvey) : Type 0 where
+pub record IsReportedWithout (w : Workload) (answers : List (Option Answer)) (history : List Placed) (closed new : DiskSeen) (bytes : List ℕ) (cause : AfterRun) : Type 0 where
   pub text : bytes ≡ report w answers history None
-  pub refused : IsUnsurveyedFor closed new cause
+  pub refused : IsUnsurveyedFor w.geometry closed new cause
   pub visiting : IsVisiting closed.state new.state
 
 -- what is decided behind the last line
@@ -137,7 +138,7 @@ IsReportOr bytes outcomes.Memory = Unit {0}
 IsReportOr bytes outcome = ⊥
 
 -- these bytes are the report without a usage, for this cause, or there was no memory for them
-abbrev pub IsReportWithoutOr : List ℕ → NoSurvey → Outcome → Type 0
+abbrev pub IsReportWithoutOr : List ℕ → AfterRun → Outcome → Type 0
 IsReportWithoutOr bytes cause (outcomes.Unsurveyed report given) = (report.items ≡ bytes) × (given ≡ cause)
 IsReportWithoutOr bytes cause outcomes.Memory = Unit {0}
 IsReportWithoutOr bytes cause outcome = ⊥
@@ -149,7 +150,7 @@ pub record IsDone (w : Workload) (old new : DiskSeen) (bytes : List ℕ) : Type 
   pub reported : IsReported w run.answers run.history run.closed new bytes
 
 -- the workload was run, the survey was refused for this cause, and these bytes are the report without a usage
-pub record IsUnsurveyed (w : Workload) (old new : DiskSeen) (bytes : List ℕ) (cause : NoSurvey) : Type 0 where
+pub record IsUnsurveyed (w : Workload) (old new : DiskSeen) (bytes : List ℕ) (cause : AfterRun) : Type 0 where
   pub run : Run
   pub ran : IsRunOf w old new.state.told run
   pub reported : IsReportedWithout w run.answers run.history run.closed new bytes cause

@@ -1,25 +1,26 @@
 -- How the job ends that runs a workload.
-use Rattle.std.specs.Prelude.{◌≡◌, ◌≢◌, ◌⊎◌, ◌++◌, ◌∷◌, [], ℕ, Err, IsSomeAnd, List, Ok, Result, codes}
+use Rattle.std.specs.Prelude.{◌≡◌, ◌≢◌, ◌⊎◌, ◌+◌, ◌++◌, ◌∷◌, [], ℕ, Err, IsSomeAnd, List, Ok, Result, codes}
 use Rattle.std.specs.Io.KnownBytes.{Appends}
 use Rattle.first_run.specs.Runs.{Leads}
-use Rattle.first_run.specs.Seats.{OnImages}
+use Rattle.shared_disk.specs.State.{OnImages}
 use Rattle.vol_base.specs.Faults.{Rose}
 use Rattle.vol_io.specs.Writes.{AppendsFront}
 use Rattle.volume_opening.specs.declared.open_no.OpenNo.TheVariants as openings
 use Rattle.workload.specs.declared.cause.WorkloadNo.{WorkloadNo}
 use Rattle.workload.specs.declared.line.Workload.{Workload}
-use Rattle.workload.specs.Grammar.{Refusal}
-use Rattle.jobs.specs.declared.outcome.NoSurvey.{NoSurvey}
+use Rattle.workload.specs.Grammar.{Refusal, most_bytes}
+use Rattle.jobs.specs.declared.outcome.AfterRun.{AfterRun}
 use Rattle.jobs.specs.declared.outcome.Outcome.{Outcome}
 use Rattle.jobs.specs.declared.outcome.VolumeNo.{VolumeNo}
 use Rattle.jobs.specs.declared.status.Status.{Status}
 use Rattle.jobs.specs.declared.status.Status.TheVariants as statuses
 use Rattle.jobs.specs.Built.{built_workload_of}
-use Rattle.jobs.specs.Endings.{DiskSeen, Ends, HasRefused, IsSmooth}
-use Rattle.jobs.specs.Outcomes.{fault_line, geometry_line, outcome_text, refusal_text, survey_status, survey_text, workload_line}
+use Rattle.shared_disk.specs.Seen.{DiskSeen}
+use Rattle.jobs.specs.Endings.{Ends, HasRefused, IsSmooth}
+use Rattle.jobs.specs.Outcomes.{disk_fault_line, geometry_line, outcome_text, refusal_text, survey_status, survey_text, workload_line}
 use Rattle.jobs.specs.Runs.{IsDone, IsFitFor, IsRefusable, IsUnfit, IsUnopened, IsUnsurveyed, KeepsImages, RunDecides, RunRefuses}
 use Rattle.jobs.specs.Seen.{Seen}
-use Rattle.jobs.specs.Sources.{IsRead, IsRefusedText, SourceSeen, StopsReading}
+use Rattle.jobs.specs.Sources.{IsRead, IsRefusedText, SourceSeen, StopsReading, TakesAtMost}
 
 -- no workload was read, and the device was not touched
 pub record IsStopped (from to : SourceSeen) (old new : DiskSeen) (outcome : Outcome) : Type 0 where
@@ -74,14 +75,14 @@ pub record FailsToOpen (before after : Seen) : Type 0 where
   pub workload : Workload
   pub read : IsRead before.source after.source workload
   pub failed : IsUnopened workload.geometry before.disk after.disk openings.Failed
-  pub text : Appends before.sink.taken after.sink.taken fault_line
+  pub text : Appends before.sink.taken after.sink.taken disk_fault_line
 
 -- the workload was run, and the survey behind it was refused; the report, without a usage, stands before the cause
 pub record StopsAtSurvey (before after : Seen) (status : Status) : Type 0 where
   pub workload : Workload
   pub read : IsRead before.source after.source workload
   pub report : List ℕ
-  pub cause : NoSurvey
+  pub cause : AfterRun
   pub is : survey_status cause ≡ status
   pub unsurveyed : IsUnsurveyed workload before.disk after.disk report cause
   pub text : Appends before.sink.taken after.sink.taken (report ++ survey_text cause)
@@ -156,7 +157,9 @@ pub record SimEnds (before after : Seen) (status : Status) : Type 0 where
   pub geometry : status ≡ statuses.Geometry → RefusesGeometry before after
   -- a status behind the reading means that the text was read to its end and is that of a workload
   pub accepted : IsPastReading status → (workload : Workload) × IsRead before.source after.source workload
-  -- whatever the status, the files are those of some history
+  -- whatever the status, one byte more than a text may have is the most that the source gave
+  pub taken : TakesAtMost (most_bytes + 1) before.source after.source
+  -- the files are those of some history
   pub files : (after.disk ≡ before.disk) ⊎ LeavesFiles before after
   pub blocks : after.disk.state.blocks ≡ before.disk.state.blocks
   -- what is to be refused is refused, unless a call failed

@@ -1,5 +1,5 @@
 -- What a source gives to be run.
-use Rattle.std.specs.Prelude.{◌≡◌, ◌⊎◌, ◌<◌, ℕ, List, Option, Ok, Err, length}
+use Rattle.std.specs.Prelude.{◌≡◌, ◌⊎◌, ◌<◌, ◌≤◌, ℕ, List, Option, Ok, Err, length}
 use Rattle.std.specs.Io.KnownBytes.{Consumes, IsAtEnd}
 use Rattle.vol_base.specs.Faults.{Rose}
 use Rattle.workload.specs.declared.cause.WorkloadNo.{WorkloadNo}
@@ -14,9 +14,6 @@ pub record SourceSeen : Type 0 where
   pub left : Option (List ℕ)
   pub faults : ℕ
 
-abbrev pub source_seen : Option (List ℕ) → ℕ → SourceSeen
-source_seen left faults = record { left = left; faults = faults }
-
 -- the source was read to its end, and the text that it gave is that of this workload, each line of which is built
 pub record IsRead (before after : SourceSeen) (workload : Workload) : Type 0 where
   pub text : List ℕ
@@ -30,6 +27,12 @@ pub record IsRefusedText (before after : SourceSeen) (line : ℕ) (cause : Workl
   pub consumed : Consumes before.left after.left text
   pub whole : IsAtEnd after.left ⊎ (most_bytes < length text)
   pub is : built_workload_of text ≡ Err (line, cause)
+
+-- a front of what was left was taken, of this length at most
+pub record TakesAtMost (most : ℕ) (before after : SourceSeen) : Type 0 where
+  pub front : List ℕ
+  pub taken : Consumes before.left after.left front
+  pub bounded : length front ≤ most
 
 -- why no workload was read
 abbrev pub StopsReading : SourceSeen → SourceSeen → Outcome → Type 0

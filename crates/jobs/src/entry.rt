@@ -1,9 +1,8 @@
 // The call that the program makes.
 ghost use Rattle.std.specs.Prelude.{◌≡◌, map, string_bytes};
 ghost use Rattle.jobs.specs.Commands.{CommandEnds};
-ghost use Rattle.jobs.specs.Endings.{disk_seen, sink_seen};
-ghost use Rattle.jobs.specs.Seen.{seen};
-ghost use Rattle.jobs.specs.Sources.{source_seen};
+ghost use Rattle.shared_disk.specs.Seen.{seen_by};
+ghost use Rattle.jobs.specs.Seen.{sink_by, source_by, seen};
 ghost use Rattle.jobs.specs.Words.{job_of};
 
 use crate::commands::command;
@@ -26,13 +25,9 @@ pub fn top<R: Threads + Wait + Sync, S: Source, K: Sink, D: Device + Send, G: Ga
     disk: D,
     _gate: &G,
 ) -> (Status, D)
-    ensures { CommandEnds (job_of (map string_bytes words.now))
-        (seen (source_seen (S.left source.old) (S.faults source.old))
-        (disk_seen (D.state disk) (D.faults disk))
-        (sink_seen (K.taken sink.old) (K.faults sink.old) (K.refusals sink.old)))
-        (seen (source_seen (S.left source.new) (S.faults source.new))
-        (disk_seen (D.state result.1) (D.faults result.1))
-        (sink_seen (K.taken sink.new) (K.faults sink.new) (K.refusals sink.new)))
+    ensures ends { CommandEnds (job_of (map string_bytes words.now))
+        (seen (source_by S.Source source.old) (seen_by D.Device disk) (sink_by K.Sink sink.old))
+        (seen (source_by S.Source source.new) (seen_by D.Device result.1) (sink_by K.Sink sink.new))
         result.0 }
 {
     command(alloc, words, source, sink, disk)

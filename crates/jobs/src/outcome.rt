@@ -7,9 +7,6 @@ use vol_base::Key;
 use volume_faults::Fault;
 use workload::WorkloadNo;
 
-/// The last counter of a device, behind which it gives no key.
-pub const LAST_COUNTER: u64 = (1 << 59) - 1;
-
 /// Why a volume is refused.
 #[derive(Debug, Drop)]
 pub enum VolumeNo {
@@ -29,7 +26,7 @@ pub enum VolumeNo {
 
 /// Why the volume that a run left gives no usage.
 #[derive(Clone, Copy, Debug, PartialEq, Eq)]
-pub enum NoSurvey {
+pub enum AfterRun {
     /// A call of the device failed.
     DiskFault,
     /// The device's counter is this, its last one, so that it gives no key.
@@ -38,14 +35,14 @@ pub enum NoSurvey {
     Misread(u64),
 }
 
-impl NoSurvey {
+impl AfterRun {
     /// The status of a job that ends so.
     pub fn status(&self) -> Status
         ensures { result ≡ survey_status self.now }
     {
         match self {
-            NoSurvey::DiskFault => Status::DiskFault,
-            NoSurvey::NoKeys(_) | NoSurvey::Misread(_) => Status::Volume,
+            AfterRun::DiskFault => Status::DiskFault,
+            AfterRun::NoKeys(_) | AfterRun::Misread(_) => Status::Volume,
         }
     }
 }
@@ -58,7 +55,7 @@ pub enum Outcome {
     Done(Vec<u8>),
     /// A workload was run, and this is its report without a usage: the survey behind it was refused for
     /// this cause, whose text follows the report.
-    Unsurveyed { report: Vec<u8>, cause: NoSurvey },
+    Unsurveyed { report: Vec<u8>, cause: AfterRun },
     /// The words are not of the form.
     Usage,
     /// The text that was read is no workload: its first faulty line, from 1, and the cause. A text that

@@ -1,11 +1,13 @@
 // The workload that a source gives.
-ghost use Rattle.std.specs.Prelude.{◌≡◌, ◌<◌, ◌≤◌, ◌^◌, All, IfErr, IfOk, find, length, not};
+ghost use Rattle.std.specs.Prelude.{◌≡◌, ◌+◌, ◌<◌, ◌≤◌, ◌^◌, All, IfErr, IfOk, find, length, not};
+ghost use Rattle.workload.specs.Grammar.{most_bytes};
 ghost use Rattle.vol_layout.specs.Ranges.{IsGeometry};
 ghost use Rattle.first_run.specs.Runs.{IsBuiltLine};
 ghost use Rattle.histories.specs.Phases.{ArePhased};
+ghost use Rattle.jobs.specs.Seen.{source_by};
 ghost use Rattle.jobs.specs.Built.{built_workload_of, first_unbuilt, first_unbuilt_line, is_built, is_built_command};
-ghost use Rattle.jobs.specs.Readings.{Answers};
-ghost use Rattle.jobs.specs.Sources.{IsRead, StopsReading, source_seen};
+ghost use Rattle.jobs.specs.Readings.{IsReadingOf};
+ghost use Rattle.jobs.specs.Sources.{IsRead, StopsReading, TakesAtMost};
 
 use crate::outcome::Outcome;
 use std::alloc::Global;
@@ -19,10 +21,11 @@ const MOST_BYTES: usize = 1_048_576;
 // Reads the source to its end, and gives the workload of its text; or else the outcome with which the
 // job ends. A line that is not built yet is refused as a word that is no command.
 pub fn read_workload<S: Source>(alloc: Global, source: &mut S) -> Result<Workload, Outcome>
-    ensures ok { IfOk result (IsRead (source_seen (S.left source.old) (S.faults source.old))
-        (source_seen (S.left source.new) (S.faults source.new))) }
-    ensures err { IfErr result (StopsReading (source_seen (S.left source.old) (S.faults source.old))
-        (source_seen (S.left source.new) (S.faults source.new))) }
+    ensures ok { IfOk result (IsRead (source_by S.Source source.old)
+        (source_by S.Source source.new)) }
+    ensures err { IfErr result (StopsReading (source_by S.Source source.old)
+        (source_by S.Source source.new)) }
+    ensures taken { TakesAtMost (most_bytes + 1) (source_by S.Source source.old) (source_by S.Source source.new) }
     ensures later { S.faults source.old ≤ S.faults source.new }
     ensures geometry { IfOk result (λ workload. IsGeometry workload.geometry) }
     ensures lines { IfOk result (λ workload. All (IsBuiltLine workload.geometry) workload.lines) }
@@ -47,7 +50,7 @@ fn refused(line: u32, cause: WorkloadNo) -> Outcome
 // The workload of a text, each line of which is built.
 #[tactic(auto, unfolding(crate::specs::Built::built_workload_of))]
 fn built_workload(alloc: Global, text: &[u8]) -> Result<Workload, Outcome>
-    ensures is { Answers (built_workload_of text.now) result }
+    ensures is { IsReadingOf (built_workload_of text.now) result }
     ensures geometry { IfOk result (λ workload. IsGeometry workload.geometry) }
     ensures lines { IfOk result (λ workload. All (IsBuiltLine workload.geometry) workload.lines) }
     ensures few { IfOk result (λ workload. length workload.lines < 2 ^ 32) }

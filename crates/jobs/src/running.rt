@@ -5,13 +5,13 @@ ghost use Rattle.first_run.specs.Seats.{HasVolume, owed_of};
 ghost use Rattle.histories.specs.Phases.{ArePhased};
 ghost use Rattle.report.specs.Reports.{report};
 ghost use Rattle.vol_layout.specs.Ranges.{IsGeometry};
-ghost use Rattle.jobs.specs.Endings.{disk_seen};
+ghost use Rattle.shared_disk.specs.Seen.{seen_by};
 ghost use Rattle.jobs.specs.Runs.{Concludes, IsReportOr, IsReportWithoutOr, RunDecides, unopened};
 
-use crate::outcome::{LAST_COUNTER, NoSurvey, Outcome, VolumeNo};
+use crate::outcome::{AfterRun, Outcome, VolumeNo};
 use first_run::{Ran, run};
 use image_view::{SurveyNo, Usage};
-use shared_disk::Device;
+use shared_disk::{Device, LAST_COUNTER};
 use std::alloc::Global;
 use vol_base::NoMemory;
 use volume_check::survey;
@@ -24,7 +24,7 @@ pub fn run_workload<D: Device>(alloc: Global, disk: &mut D, workload: &Workload)
     requires lines { All (IsBuiltLine workload.now.geometry) workload.now.lines }
     requires few { length workload.now.lines < 2 ^ 32 }
     requires phased { ArePhased workload.now.lines }
-    ensures decided { RunDecides workload.now (disk_seen (D.state disk.old) (D.faults disk.old)) (disk_seen (D.state disk.new) (D.faults disk.new)) result }
+    ensures decided { RunDecides workload.now (seen_by D.Device disk.old) (seen_by D.Device disk.new) result }
     ensures blocks { (D.state disk.new).blocks ≡ (D.state disk.old).blocks }
     ensures later { D.faults disk.old ≤ D.faults disk.new }
 {
@@ -58,20 +58,20 @@ fn conclude<D: Device>(alloc: Global, disk: &mut D, workload: &Workload, ran: &R
     requires answered { All (λ answer. IsSome answer) ran.now.answers.items }
     requires placed { All (λ entry. entry.line < length workload.now.lines) ran.now.history.items }
     ensures concluded { Concludes workload.now ran.now.answers.items ran.now.history.items
-        (disk_seen (D.state disk.old) (D.faults disk.old)) (disk_seen (D.state disk.new) (D.faults disk.new)) result }
+        (seen_by D.Device disk.old) (seen_by D.Device disk.new) result }
     ensures told { (D.state disk.new).told ≡ (D.state disk.old).told }
     ensures blocks { (D.state disk.new).blocks ≡ (D.state disk.old).blocks }
     ensures later { D.faults disk.old ≤ D.faults disk.new }
 {
-    match survey(alloc, disk) {
+    match survey(alloc, disk, Some(workload.geometry)) {
         Ok(usage) => report_with(alloc, workload, ran, &usage),
         Err(SurveyNo::NoMemory) => Outcome::Memory,
-        Err(SurveyNo::Failed) => report_without(alloc, workload, ran, NoSurvey::DiskFault),
+        Err(SurveyNo::Failed) => report_without(alloc, workload, ran, AfterRun::DiskFault),
         Err(SurveyNo::NoKeys) => {
-            report_without(alloc, workload, ran, NoSurvey::NoKeys(LAST_COUNTER))
+            report_without(alloc, workload, ran, AfterRun::NoKeys(LAST_COUNTER))
         }
         Err(SurveyNo::Bad(place)) => {
-            report_without(alloc, workload, ran, NoSurvey::Misread(place))
+            report_without(alloc, workload, ran, AfterRun::Misread(place))
         }
     }
 }
@@ -88,7 +88,7 @@ fn report_with(alloc: Global, workload: &Workload, ran: &Ran, usage: &Usage) -> 
     }
 }
 
-fn report_without(alloc: Global, workload: &Workload, ran: &Ran, cause: NoSurvey) -> Outcome
+fn report_without(alloc: Global, workload: &Workload, ran: &Ran, cause: AfterRun) -> Outcome
     requires positions { length ran.now.answers.items ≡ length workload.now.lines }
     requires answered { All (λ answer. IsSome answer) ran.now.answers.items }
     requires placed { All (λ entry. entry.line < length workload.now.lines) ran.now.history.items }

@@ -1,9 +1,10 @@
 // The job that runs a workload.
-ghost use Rattle.std.specs.Prelude.{◌≡◌, ◌≤◌};
-ghost use Rattle.jobs.specs.Endings.{disk_seen, sink_seen};
-ghost use Rattle.jobs.specs.Seen.{seen};
+ghost use Rattle.std.specs.Prelude.{◌≡◌, ◌+◌, ◌≤◌};
+ghost use Rattle.shared_disk.specs.Seen.{seen_by};
+ghost use Rattle.jobs.specs.Seen.{sink_by, source_by, seen};
+ghost use Rattle.workload.specs.Grammar.{most_bytes};
+ghost use Rattle.jobs.specs.Sources.{TakesAtMost};
 ghost use Rattle.jobs.specs.Simulations.{SimDecides, SimEnds};
-ghost use Rattle.jobs.specs.Sources.{source_seen};
 
 use crate::outcome::Outcome;
 use crate::reading::read_workload;
@@ -22,13 +23,9 @@ pub fn sim<S: Source, K: Sink, D: Device>(
     sink: &mut K,
     disk: D,
 ) -> (Status, D)
-    ensures { SimEnds
-        (seen (source_seen (S.left source.old) (S.faults source.old))
-        (disk_seen (D.state disk) (D.faults disk))
-        (sink_seen (K.taken sink.old) (K.faults sink.old) (K.refusals sink.old)))
-        (seen (source_seen (S.left source.new) (S.faults source.new))
-        (disk_seen (D.state result.1) (D.faults result.1))
-        (sink_seen (K.taken sink.new) (K.faults sink.new) (K.refusals sink.new)))
+    ensures ends { SimEnds
+        (seen (source_by S.Source source.old) (seen_by D.Device disk) (sink_by K.Sink sink.old))
+        (seen (source_by S.Source source.new) (seen_by D.Device result.1) (sink_by K.Sink sink.new))
         result.0 }
 {
     let mut disk = disk;
@@ -40,9 +37,10 @@ pub fn sim<S: Source, K: Sink, D: Device>(
 // What is decided before a byte is written.
 fn decide<S: Source, D: Device>(alloc: Global, source: &mut S, disk: &mut D) -> Outcome
     ensures decided { SimDecides
-        (source_seen (S.left source.old) (S.faults source.old)) (source_seen (S.left source.new) (S.faults source.new))
-        (disk_seen (D.state disk.old) (D.faults disk.old)) (disk_seen (D.state disk.new) (D.faults disk.new))
+        (source_by S.Source source.old) (source_by S.Source source.new)
+        (seen_by D.Device disk.old) (seen_by D.Device disk.new)
         result }
+    ensures taken { TakesAtMost (most_bytes + 1) (source_by S.Source source.old) (source_by S.Source source.new) }
     ensures blocks { (D.state disk.new).blocks ≡ (D.state disk.old).blocks }
 {
     match read_workload(alloc, source) {

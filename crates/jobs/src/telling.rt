@@ -1,5 +1,6 @@
 // An outcome is told.
-ghost use Rattle.jobs.specs.Endings.{Told, sink_seen};
+ghost use Rattle.jobs.specs.Seen.{sink_by};
+ghost use Rattle.jobs.specs.Endings.{IsTold};
 
 use crate::outcome::Outcome;
 use crate::status::Status;
@@ -12,9 +13,9 @@ use vol_io::{Sink, write_all};
 /// or took nothing, behind a front of the text; and `Memory` where the text could not be made, and then
 /// nothing is written.
 pub fn tell<K: Sink>(alloc: Global, sink: &mut K, outcome: Outcome) -> Status
-    ensures { Told
-        (sink_seen (K.taken sink.old) (K.faults sink.old) (K.refusals sink.old))
-        (sink_seen (K.taken sink.new) (K.faults sink.new) (K.refusals sink.new))
+    ensures { IsTold
+        (sink_by K.Sink sink.old)
+        (sink_by K.Sink sink.new)
         outcome result }
 {
     let status = outcome.status();

@@ -2,7 +2,7 @@
 ghost use Rattle.std.specs.Prelude.{◌≡◌, ◌++◌, ◌∷◌, [], IfOk};
 ghost use Rattle.jobs.specs.Outcomes.{busy_line, cause_word, geometry_line, keys_line, outcome_text, refusal_text, spelling_line, survey_text, workload_line};
 
-use crate::outcome::{NoSurvey, Outcome, VolumeNo};
+use crate::outcome::{AfterRun, Outcome, VolumeNo};
 use std::alloc::Global;
 use vol_base::NoMemory;
 use volume_faults::{Fault, FaultKind};
@@ -38,7 +38,7 @@ fn refusal_text(alloc: Global, refusal: VolumeNo) -> Result<Vec<u8>, NoMemory>
 }
 
 // A report, and behind it why the survey was refused.
-fn unsurveyed_text(alloc: Global, report: Vec<u8>, cause: NoSurvey) -> Result<Vec<u8>, NoMemory>
+fn unsurveyed_text(alloc: Global, report: Vec<u8>, cause: AfterRun) -> Result<Vec<u8>, NoMemory>
     ensures { IfOk result (λ bytes. bytes.items ≡ report.items ++ survey_text cause) }
 {
     let mut text = report;
@@ -49,13 +49,13 @@ fn unsurveyed_text(alloc: Global, report: Vec<u8>, cause: NoSurvey) -> Result<Ve
     }
 }
 
-fn survey_text(alloc: Global, cause: NoSurvey) -> Result<Vec<u8>, NoMemory>
+fn survey_text(alloc: Global, cause: AfterRun) -> Result<Vec<u8>, NoMemory>
     ensures { IfOk result (λ bytes. bytes.items ≡ survey_text cause) }
 {
     match cause {
-        NoSurvey::DiskFault => line(alloc, "disk fault"),
-        NoSurvey::NoKeys(counter) => keys_line(alloc, counter),
-        NoSurvey::Misread(place) => spelling_line(alloc, place),
+        AfterRun::DiskFault => line(alloc, "disk fault"),
+        AfterRun::NoKeys(counter) => keys_line(alloc, counter),
+        AfterRun::Misread(place) => spelling_line(alloc, place),
     }
 }
 

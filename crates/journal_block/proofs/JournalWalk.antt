@@ -17,7 +17,8 @@ use Rattle.vol_layout.specs.laws.JournalLaws.{edit_at-spelled, journal_count-spe
 use Rattle.journal_block.specs.JournalRecord.{IsJournalRecord, JournalRecord, entry_of}
 
 -- a draft with the first n edits behind it
-pub longer : (draft front : List ℕ) (es : List Edit) (n : ℕ) → draft ≡ front ++ flat_map edit_bytes (take n es) → n ≤ length es → length draft ≡ length front + 16 * n
+pub longer : (draft front : List ℕ) (es : List Edit) (n : ℕ) → draft ≡ front ++ flat_map edit_bytes (take n es) → n ≤ length es
+    → length draft ≡ length front + 16 * n
 longer draft front es n e h =
     ap length e ∙ length-append front (flat_map edit_bytes (take n es)) ∙ omega (arith, length-edits (take n es), length-take-le n es h)
 
@@ -30,7 +31,8 @@ journal_written key es draft result w long r =
     let rest : 4096 - length draft ≡ 4032 - 16 * length es = omega arith in
     r ∙ ap (λ (m : ℕ). draft ++ zeros m) rest ∙ ap (λ (xs : List ℕ). xs ++ zeros (4032 - 16 * length es)) w
 
-pub record_written : (result : List ℕ) (n key : ℕ) (ds es : List Edit) → result ≡ journal_bytes n ds → n ≡ key → ds ≡ es → result ≡ journal_bytes key es
+pub record_written : (result : List ℕ) (n key : ℕ) (ds es : List Edit) → result ≡ journal_bytes n ds → n ≡ key → ds ≡ es
+    → result ≡ journal_bytes key es
 record_written result n key ds es r k e = r ∙ ap (λ (m : ℕ). journal_bytes m ds) k ∙ ap (λ (xs : List Edit). journal_bytes key xs) e
 
 pub spells_none : (g : Geometry) (bytes : List ℕ) → bytes ≡ journal_bytes 0 [] → SpellsJournal g bytes 0 []
@@ -41,7 +43,8 @@ spells_none g bytes e = record {
   spelled = e;
 }
 
-pub spells_record : (g : Geometry) (bytes : List ℕ) (r : JournalRecord) → r.key < 2 ^ 64 → IsJournalRecord r → All (IsEdit g) r.edits → bytes ≡ journal_bytes r.key r.edits → SpellsJournal g bytes r.key r.edits
+pub spells_record : (g : Geometry) (bytes : List ℕ) (r : JournalRecord) → r.key < 2 ^ 64 → IsJournalRecord r → All (IsEdit g) r.edits
+    → bytes ≡ journal_bytes r.key r.edits → SpellsJournal g bytes r.key r.edits
 spells_record g bytes r small well each e = record {
   edits = record { few = well.few; each = each; apart = well.apart };
   width = small;
@@ -60,7 +63,8 @@ pub record NextEdit (g : Geometry) (bytes : List ℕ) (es : List Edit) (k : ℕ)
   pub new : touches (take k es) (edit_at bytes (64 + 16 * k)).field ≡ false
   pub long : length (take k es) ≡ k
 
-pub next_edit : (g : Geometry) (bytes : List ℕ) (key : ℕ) (es : List Edit) (k : ℕ) → IsGeometry g → SpellsJournal g bytes key es → k < u32_at bytes 8 → NextEdit g bytes es k
+pub next_edit : (g : Geometry) (bytes : List ℕ) (key : ℕ) (es : List Edit) (k : ℕ) → IsGeometry g → SpellsJournal g bytes key es
+    → k < u32_at bytes 8 → NextEdit g bytes es k
 next_edit g bytes key es k geometry h below =
     let inside : k < length es = omega (arith, journal_count-spelled g bytes key es h) in
     let d = edit_at bytes (64 + 16 * k) in
@@ -75,12 +79,14 @@ next_edit g bytes key es k geometry h below =
     }
 
 -- a block that spells no edit spells the empty journal
-pub no_edits : (g : Geometry) (bytes : List ℕ) (key : ℕ) (es : List Edit) → SpellsJournal g bytes key es → u32_at bytes 8 ≡ 0 → entry_of key es ≡ None
+pub no_edits : (g : Geometry) (bytes : List ℕ) (key : ℕ) (es : List Edit) → SpellsJournal g bytes key es → u32_at bytes 8 ≡ 0
+    → entry_of key es ≡ None
 no_edits g bytes key [] h none = refl
 no_edits g bytes key (e ∷ es) h none = absurd (omega (arith, journal_count-spelled g bytes key (e ∷ es) h))
 
 -- all that was read
-pub all_edits : (g : Geometry) (bytes : List ℕ) (key : ℕ) (es : List Edit) (r : JournalRecord) (k : ℕ) → SpellsJournal g bytes key es → r ≡ record { key = key; edits = take k es }
+pub all_edits : (g : Geometry) (bytes : List ℕ) (key : ℕ) (es : List Edit) (r : JournalRecord) (k : ℕ) → SpellsJournal g bytes key es
+    → r ≡ record { key = key; edits = take k es }
     → k ≡ u32_at bytes 8 → 0 < k → Some r ≡ entry_of key es
 all_edits g bytes key [] r k h is all some = absurd (omega (arith, journal_count-spelled g bytes key [] h))
 all_edits g bytes key (e ∷ es) r k h is all some =
@@ -92,7 +98,8 @@ abbrev pub WasRead : Geometry → Edit → Edit → Type 0
 WasRead g there e = IsEdit g there → Some e ≡ Some there
 
 -- the first edit was read
-pub first_read : (g : Geometry) (bytes : List ℕ) (number : ℕ) (e : Edit) (r : JournalRecord) → IsGeometry g → 0 < u32_at bytes 8 → number ≡ u64_at bytes 16
+pub first_read : (g : Geometry) (bytes : List ℕ) (number : ℕ) (e : Edit) (r : JournalRecord) → IsGeometry g → 0 < u32_at bytes 8
+    → number ≡ u64_at bytes 16
     → WasRead g (edit_at bytes 64) e → r ≡ record { key = number; edits = e ∷ [] } → ReadUpTo g bytes 1 r
 first_read g bytes number e r geometry some n_is e_is r_is key es h =
     let next = next_edit g bytes key es 0 geometry h some in
@@ -102,7 +109,8 @@ first_read g bytes number e r geometry some n_is e_is r_is key es h =
     ∙ ap (λ (xs : List Edit). let x : JournalRecord = record { key = key; edits = xs } in x) (ap (λ (d : Edit). d ∷ []) same ∙ sym next.more)
 
 -- one more edit was read and added
-pub one_more : (g : Geometry) (bytes : List ℕ) (k : ℕ) (e : Edit) (old new : JournalRecord) → IsGeometry g → k < u32_at bytes 8 → ReadUpTo g bytes k old
+pub one_more : (g : Geometry) (bytes : List ℕ) (k : ℕ) (e : Edit) (old new : JournalRecord) → IsGeometry g → k < u32_at bytes 8
+    → ReadUpTo g bytes k old
     → WasRead g (edit_at bytes (64 + 16 * k)) e → new ≡ record old { edits = old.edits ++ e ∷ [] } → ReadUpTo g bytes (k + 1) new
 one_more g bytes k e old new geometry below before e_is new_is key es h =
     let next = next_edit g bytes key es k geometry h below in
@@ -112,7 +120,8 @@ one_more g bytes k e old new geometry below before e_is new_is key es h =
     ∙ ap (λ (xs : List Edit). let x : JournalRecord = record { key = key; edits = xs } in x) (ap (λ (d : Edit). take k es ++ d ∷ []) same ∙ sym next.more)
 
 -- an edit of a spelled record can be added
-pub can_be_added : (g : Geometry) (bytes : List ℕ) (k : ℕ) (e : Edit) (r : JournalRecord) (key : ℕ) (es : List Edit) → IsGeometry g → SpellsJournal g bytes key es → k < u32_at bytes 8 → u32_at bytes 8 ≤ 8
+pub can_be_added : (g : Geometry) (bytes : List ℕ) (k : ℕ) (e : Edit) (r : JournalRecord) (key : ℕ) (es : List Edit) → IsGeometry g
+    → SpellsJournal g bytes key es → k < u32_at bytes 8 → u32_at bytes 8 ≤ 8
     → ReadUpTo g bytes k r → WasRead g (edit_at bytes (64 + 16 * k)) e → (length r.edits ≡ 8) ⊎ IsTrue (touches r.edits e.field) → ⊥
 can_be_added g bytes k e r key es geometry h below few before e_is full =
     let next = next_edit g bytes key es k geometry h below in
@@ -127,7 +136,8 @@ can_be_added g bytes k e r key es geometry h below few before e_is full =
     ]
 
 -- edits in range stay so with one more, and the first is one
-pub All-more : (g : Geometry) (e : Edit) (es : List Edit) (new : JournalRecord) (key : ℕ) → All (IsEdit g) es → IsEdit g e → new ≡ record { key = key; edits = es ++ e ∷ [] } → All (IsEdit g) new.edits
+pub All-more : (g : Geometry) (e : Edit) (es : List Edit) (new : JournalRecord) (key : ℕ) → All (IsEdit g) es → IsEdit g e
+    → new ≡ record { key = key; edits = es ++ e ∷ [] } → All (IsEdit g) new.edits
 All-more g e es new key each one is =
     let edits_are : new.edits ≡ es ++ e ∷ [] = ap (λ (x : JournalRecord). x.edits) is in
     subst (All (IsEdit g)) (sym edits_are) (All-append (IsEdit g) es (e ∷ []) each (All-cons (IsEdit g) e [] one (All-nil (IsEdit g))))
@@ -136,7 +146,8 @@ All-more g e es new key each one is =
 pub found : (es : List Edit) (k : ℕ) (d : Edit) (x : Field) → k < length es → (get_or es k d).field ≡ x → touches es x ≡ true
 found es k d x inside is = subst (λ (y : Field). touches es y ≡ true) is (touches-at es k (get_or es k d) (slice_get-get_or es k d inside))
 
-pub not_yet : (es : List Edit) (k : ℕ) (d : Edit) (x : Field) → k < length es → touches (take k es) x ≡ false → ((get_or es k d).field ≡ x → ⊥) → touches (take (k + 1) es) x ≡ false
+pub not_yet : (es : List Edit) (k : ℕ) (d : Edit) (x : Field) → k < length es → touches (take k es) x ≡ false
+    → ((get_or es k d).field ≡ x → ⊥) → touches (take (k + 1) es) x ≡ false
 not_yet es k d x inside before other =
     let here = other_field-is (get_or es k d).field x other in
     ap (λ (xs : List Edit). touches xs x) (take_more es k d inside) ∙ touches-append (take k es) (get_or es k d ∷ []) x ∙ rw (before, here) refl

@@ -15,6 +15,3 @@ mod record;
 
 pub use journal::{read_journal, write_journal};
 pub use record::Record;
-
-#[cfg(test)]
-mod tests;

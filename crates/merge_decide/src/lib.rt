@@ -17,6 +17,3 @@ mod outcome;
 pub use action::{Action, decide};
 pub use counting::counted;
 pub use outcome::{MergeCount, Outcome, PromoteOutcome, ShareOutcome};
-
-#[cfg(test)]
-mod tests;

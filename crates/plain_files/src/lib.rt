@@ -13,6 +13,3 @@ mod history;
 
 pub use files::{DEFAULT_LIMIT, PlainFiles};
 pub use history::{Placed, replay};
-
-#[cfg(test)]
-mod tests;

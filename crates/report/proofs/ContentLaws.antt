@@ -7,7 +7,7 @@ use Rattle.vol_base.specs.declared.block.Block.{Block}
 use Rattle.vol_base.specs.Bytes.{bytes_of, number_at, u64_at}
 use Rattle.vol_base.specs.laws.BytesLaws.{number_at-written}
 use Rattle.vol_base.specs.NumberBlock.{number_block, number_bytes, repeated}
-use Rattle.report.specs.Contents.{number_in}
+use Rattle.report.specs.Contents.{shown_number}
 
 repeated-front : (n : ℕ) (xs : List ℕ) → repeated n xs ++ xs ≡ xs ++ repeated n xs
 repeated-front zero xs = sym (append-nil xs)
@@ -29,22 +29,18 @@ false_from_Decides true d never = absurd (never (d.0 refl))
 false_from_Decides false d never = refl
 
 -- the number is the first one, where the block of that is this block
-pub number_in-same : (block : Block) (n : ℕ) → n ≡ u64_at block.0 0 → number_block n ≡ block → number_in block ≡ Some n
-unfolding number_in
-number_in-same block n first e =
+pub shown_number-same : (block : Block) (n : ℕ) → n ≡ u64_at block.0 0 → number_block n ≡ block → shown_number block ≡ Some n
+unfolding shown_number
+shown_number-same block n first e =
     let bytes : number_bytes (u64_at block.0 0) ≡ block.0 = ap number_bytes (sym first) ∙ ap (λ (b : Block). b.0) e in
     let yes : bytes_eq (number_bytes (u64_at block.0 0)) block.0 ≡ true = (bytes_eq-Decides (number_bytes (u64_at block.0 0)) block.0).1 bytes in
     rw yes (ap Some (sym first))
 
 -- and there is none where it is another
-pub number_in-other : (block : Block) (n : ℕ) → n ≡ u64_at block.0 0 → (number_block n ≡ block → ⊥) → number_in block ≡ None
-unfolding number_in
-number_in-other block n first other =
+pub shown_number-other : (block : Block) (n : ℕ) → n ≡ u64_at block.0 0 → (number_block n ≡ block → ⊥) → shown_number block ≡ None
+unfolding shown_number
+shown_number-other block n first other =
     let differ : number_bytes (u64_at block.0 0) ≡ block.0 → ⊥ =
     λ bytes. other (ap (λ (xs : List ℕ). let b : Block = record { 0 = xs } in b) (ap number_bytes first ∙ bytes)) in
     let unlike : bytes_eq (number_bytes (u64_at block.0 0)) block.0 ≡ false = false_from_Decides (bytes_eq (number_bytes (u64_at block.0 0)) block.0) (bytes_eq-Decides (number_bytes (u64_at block.0 0)) block.0) differ in
     rw unlike refl
-
--- the number of a number block
-pub number_in-number_block : (n : ℕ) → n < 2 ^ 64 → number_in (number_block n) ≡ Some n
-number_in-number_block n small = number_in-same (number_block n) n (sym (u64_at-number_bytes n small)) refl

@@ -8,8 +8,8 @@ use Rattle.vol_base.specs.Bytes.{u64_at}
 use Rattle.vol_base.specs.NumberBlock.{number_bytes}
 
 -- the number of a number block: the one in its first eight bytes, where the block of that number is this block
-unfoldable pub number_in : Block → Option ℕ
-number_in block =
+unfoldable pub shown_number : Block → Option ℕ
+shown_number block =
     let n = u64_at block.0 0 in
     if bytes_eq (number_bytes n) block.0 then Some n else None
 
@@ -20,4 +20,4 @@ text_by block None = codes "# " ++ encode_lower (digest_of block).0
 
 -- the text of a block
 abbrev pub content_text : Block → List ℕ
-content_text block = text_by block (number_in block)
+content_text block = text_by block (shown_number block)

@@ -1,6 +1,6 @@
 // The text of a block that a file holds.
 ghost use Rattle.std.specs.Prelude.{◌≡◌, ◌≢◌, ◌^◌, ◌<◌, ◌++◌, ℕ, IfSome, OnOk, string_bytes};
-ghost use Rattle.report.specs.Contents.{content_text, number_in};
+ghost use Rattle.report.specs.Contents.{content_text, shown_number};
 ghost use Rattle.vol_base.specs.NumberBlock.{number_block};
 
 use fingerprint::digest_of;
@@ -11,7 +11,7 @@ use vol_base::{Block, number_block};
 pub fn write_content(alloc: Global, text: &mut String, block: &Block) -> Result<(), AllocError>
     ensures { OnOk result (string_bytes text.new ≡ string_bytes text.old ++ content_text block.now) }
 {
-    match number_in(block) {
+    match shown_number(block) {
         Some(n) => write!(text, "= {n}"),
         None => {
             let digits = hex::encode(alloc, digest_of(block).0)?;
@@ -21,8 +21,8 @@ pub fn write_content(alloc: Global, text: &mut String, block: &Block) -> Result<
 }
 
 // The number of a number block, or `None` for any other block.
-fn number_in(block: &Block) -> Option<u64>
-    ensures value { result ≡ number_in block.now }
+fn shown_number(block: &Block) -> Option<u64>
+    ensures value { result ≡ shown_number block.now }
     ensures some { IfSome result (λ n. block.now ≡ number_block n) }
     ensures none { result ≡ None → (n : ℕ) → n < 2 ^ 64 → block.now ≢ number_block n }
 {

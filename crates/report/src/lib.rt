@@ -12,6 +12,3 @@ mod contents;
 mod lines;
 
 pub use lines::{text, write_usage_line};
-
-#[cfg(test)]
-mod tests;

@@ -4,4 +4,5 @@ pub mod MemDisk
 pub mod Prefixes
 pub mod Seen
 pub mod State
+pub mod Visits
 pub mod laws

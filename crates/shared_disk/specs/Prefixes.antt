@@ -6,8 +6,10 @@ unfoldable pub image_after : List (ℕ × List ℕ) → List (List ℕ) → List
 image_after [] image = image
 image_after (w ∷ writes) image = image_after writes (slice_set image w.0 w.1)
 
--- after each number of the writes, the image stands for the first so many entries of the history: their number never falls, and ends at the whole history
-pub record EachFront {E : Type 0} (StandsFor : List (List ℕ) → List E → Type 0) (image : List (List ℕ)) (writes : List (ℕ × List ℕ)) (history : List E) : Type 0 where
+-- after each number of the writes, the image stands for the first so many entries of the history: their number never
+-- falls, and ends at the whole history
+pub record EachFront {E : Type 0} (StandsFor : List (List ℕ) → List E → Type 0)
+    (image : List (List ℕ)) (writes : List (ℕ × List ℕ)) (history : List E) : Type 0 where
   pub front : ℕ → ℕ
   pub rising : (j k : ℕ) → j ≤ k → k ≤ length writes → front j ≤ front k
   pub last : front (length writes) ≡ length history

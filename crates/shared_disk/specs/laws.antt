@@ -1,1 +1,4 @@
+pub mod CalledLaws
+pub mod EventLaws
 pub mod PrefixLaws
+pub mod VisitLaws

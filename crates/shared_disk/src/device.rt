@@ -1,11 +1,14 @@
 // The device that hosts share.
 ghost use Rattle.std.specs.Prelude.{◌≡◌, ◌≢◌, ◌+◌, ◌-◌, ◌/◌, ◌^◌, ◌<◌, ◌≤◌, ◌↔◌, ℕ, All, Contains, IfOk, OnErr, OnOk};
-ghost use Rattle.shared_disk.specs.Calls.{after_fence, after_register, after_write, next_count, next_key, Swaps};
-ghost use Rattle.shared_disk.specs.State.{HasWholeImage, Stands, State};
+ghost use Rattle.shared_disk.specs.Calls.{after_fence, after_register, after_write, last_counter, next_count, next_key, Swaps};
+ghost use Rattle.shared_disk.specs.State.{HasBlocks, HasWholeImage, Stands, State};
 ghost use Rattle.vol_base.specs.Faults.{Rose};
 
 use crate::answers::{DiskNo, Tested};
 use vol_base::{Block, HostNo, Key};
+
+/// The counter of a device that has given all its keys, so that a key is below `2^63`.
+pub const LAST_COUNTER: u64 = (1 << 59) - 1;
 
 /// A block device that hosts share. Each of the last five calls is one atomic change. They are made
 /// under a registered key, but for `register`, which gives one; a key is `counter * 16 + host`. A
@@ -99,7 +102,7 @@ pub trait Device {
         ensures same { OnErr result (state self.new ≡ state self.old) }
         ensures blocks { (state self.new).blocks ≡ (state self.old).blocks }
 
-        ensures no_keys { (result ≡ Err DiskNo.NoKeys) ↔ ((state self.old).counter ≡ 2 ^ 59 - 1) }
+        ensures no_keys { (result ≡ Err DiskNo.NoKeys) ↔ ((state self.old).counter ≡ last_counter) }
         ensures failed { result ≡ Err DiskNo.Failed → Rose (faults self.old) (faults self.new) }
         ensures fenced { result ≢ Err DiskNo.Fenced }
         ensures memory { result ≡ Err DiskNo.NoMemory → room self.old ≡ 0 }
@@ -126,6 +129,9 @@ pub trait Device {
 
     /// The image, where it is told, is as long as the device.
     ghost whole_image: { (d : Self) → HasWholeImage (state d) };
+
+    /// The image, where it is told, is made of blocks: each is 4,096 bytes.
+    ghost whole_blocks: { (d : Self) → HasBlocks (state d) };
 
     /// Every registered key divided by 16 is at most the counter.
     ghost keys_reached: { (d : Self) → All (λ key. key / 16 ≤ (state d).counter) (state d).keys };

@@ -1,13 +1,12 @@
 // A device in memory.
 ghost use Rattle.std.specs.Prelude.{◌≡◌, ◌≢◌, ◌+◌, ◌-◌, ◌*◌, ◌/◌, ◌^◌, ◌<◌, ◌≤◌, ◌↔◌, ◌⊎◌, ℕ, All, IsTrue, vec_len, vec_capacity};
+ghost use Rattle.shared_disk.specs.Calls.{last_counter};
+ghost use Rattle.vol_base.specs.Bytes.{IsBlock};
 
 use crate::answers::{DiskNo, Tested};
-use crate::device::Device;
+use crate::device::{Device, LAST_COUNTER};
 use std::alloc::Global;
-use vol_base::{Block, HostNo, Key, NoMemory};
-
-// The counter of a device that has given all its keys.
-const LAST_COUNTER: u64 = (1 << 59) - 1;
+use vol_base::{Block, HostNo, Key, NoMemory, are_blocks};
 
 /// A device in memory, which tells its image and the list of its writes. It fails only at the calls
 /// that it was told to fail at.
@@ -24,6 +23,7 @@ pub struct MemDisk {
     failing: Vec<u64>,
     // So many more writes, and so many more keys, need no memory.
     spare: u64,
+    ghost whole: { All (λ block. IsBlock block.0) image.items },
     ghost reached: { All (λ key. key / 16 ≤ counter) keys.items },
     ghost named: { All (λ key. 0 < key) keys.items },
     ghost fits: { counter < 2 ^ 59 },
@@ -52,6 +52,7 @@ impl MemDisk {
         requires { counter < 2 ^ 59 }
         ensures { IfOk result (λ d. memory_of d ≡ fresh (bytes_of image.items) counter) }
     {
+        are_blocks(&image);
         Ok(MemDisk {
             image,
             writes: Vec::new(alloc),
@@ -163,7 +164,7 @@ impl MemDisk {
     // Raises the counter and registers the host's key.
     fn add_key(&mut self, host: HostNo) -> Result<Key, DiskNo>
         requires host { host < 16 }
-        requires counter { (memory_of self.old).state.counter < 2 ^ 59 - 1 }
+        requires counter { (memory_of self.old).state.counter < last_counter }
         ensures key { IfOk result (λ key. key.0 ≡ next_key host (memory_of self.old).state) }
         ensures ok { OnOk result (memory_of self.new ≡ with_state (after_register host (memory_of self.old).state) (memory_of self.old)) }
         ensures err { OnErr result (memory_of self.new ≡ memory_of self.old) }
@@ -198,6 +199,7 @@ impl MemDisk {
         ensures memory { IfErr result (λ refusal. (refusal ≡ DiskNo.NoMemory) × (spare_of self.old ≡ 0)) }
         ensures spends { spare_of self.new ≡ (if is_ok result then spare_of self.old - 1 else spare_of self.old) }
     {
+        let _bytes = block.bytes();
         self.writes.reserve(1)?;
         self.writes.push_reserved((place, *block));
         self.image[place as usize] = *block;
@@ -208,6 +210,7 @@ impl MemDisk {
 
 impl Device for MemDisk {
     ghost use Rattle.std.proofs.lemmas.List.{length-map};
+    ghost use Rattle.std.proofs.lemmas.List.Elements.{All-map};
     ghost use Rattle.std.specs.Prelude.{Contains, if◌then◌else◌, IfOk, is_ok, OnErr, OnOk};
     ghost use Rattle.shared_disk.specs.Calls.{after_fence, after_register, after_write, next_count, next_key, Swaps};
     ghost use Rattle.shared_disk.specs.MemDisk.{FailsWhenDue, memory_of, spare_of};
@@ -315,14 +318,14 @@ impl Device for MemDisk {
         ensures same { OnErr result ((memory_of self.new).state ≡ (memory_of self.old).state) }
         ensures blocks { (memory_of self.new).state.blocks ≡ (memory_of self.old).state.blocks }
 
-        ensures no_keys { (result ≡ Err DiskNo.NoKeys) ↔ ((memory_of self.old).state.counter ≡ 2 ^ 59 - 1) }
+        ensures no_keys { (result ≡ Err DiskNo.NoKeys) ↔ ((memory_of self.old).state.counter ≡ last_counter) }
         ensures failed { result ≡ Err DiskNo.Failed → Rose (memory_of self.old).faults (memory_of self.new).faults }
         ensures fenced { result ≢ Err DiskNo.Fenced }
         ensures memory { result ≡ Err DiskNo.NoMemory → spare_of self.old ≡ 0 }
 
         ensures count { (memory_of self.new).answered ≡ next_count (memory_of self.old).answered }
         ensures later { (memory_of self.old).faults ≤ (memory_of self.new).faults }
-        ensures due { FailsWhenDue ((memory_of self.old).state.counter ≢ 2 ^ 59 - 1) (memory_of self.old) (memory_of self.new) result }
+        ensures due { FailsWhenDue ((memory_of self.old).state.counter ≢ last_counter) (memory_of self.old) (memory_of self.new) result }
         ensures spare { spare_of self.new ≡ (if is_ok result then spare_of self.old - 1 else spare_of self.old) }
     {
         self.count_call();
@@ -355,6 +358,8 @@ impl Device for MemDisk {
     }
 
     ghost whole_image = { λ d. length-map d.image.items (λ block. block.0) };
+
+    ghost whole_blocks = { λ d. All-map IsBlock (λ block. block.0) d.image.items d.whole };
 
     ghost keys_reached = { λ d. d.reached };
 

@@ -14,7 +14,8 @@ is_free bytes Free h none = refl
 is_free bytes (Held key) h none = absurd (omega (arith, (lock_numbers bytes (Held key) h).state))
 is_free bytes (Read readers) h none = absurd (omega (arith, (lock_numbers bytes (Read readers) h).state))
 
-pub is_held : (bytes : List ℕ) (word : LockWord) (key : Key) → SpellsLock bytes word → u32_at bytes 8 ≡ 1 → key.0 ≡ u64_at bytes 16 → word ≡ Held key
+pub is_held : (bytes : List ℕ) (word : LockWord) (key : Key) → SpellsLock bytes word → u32_at bytes 8 ≡ 1 → key.0 ≡ u64_at bytes 16
+    → word ≡ Held key
 is_held bytes Free key h one k = absurd (omega (arith, (lock_numbers bytes Free h).state))
 is_held bytes (Held x) key h one k = ap (λ y. Held y) (same_key x key (sym (k ∙ (lock_numbers bytes (Held x) h).key)))
 is_held bytes (Read readers) key h one k = absurd (omega (arith, (lock_numbers bytes (Read readers) h).state))

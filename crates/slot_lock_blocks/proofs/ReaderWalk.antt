@@ -11,7 +11,8 @@ abbrev pub ReadUpTo : List ℕ → ℕ → List ℕ → Type 0
 ReadUpTo bytes host keys = (readers : List ℕ) → AreReaders readers → StandIn bytes readers → (h : ℕ) → h < host → slice_index keys h ≡ slice_index readers h
 
 -- the next key, as it was read: 0 where it is none of its host
-next_key : (host read number key : ℕ) → read ≡ key → (key ≢ 0 → key % 16 ≡ host) → (read ≡ 0 → number ≡ 0) → (IsKeyOf host read → number ≡ read) → number ≡ key
+next_key : (host read number key : ℕ) → read ≡ key → (key ≢ 0 → key % 16 ≡ host) → (read ≡ 0 → number ≡ 0)
+    → (IsKeyOf host read → number ≡ read) → number ≡ key
 next_key host read number key is of none some =
     elim (cases_eq key 0) [
       | inl zero ↦ none (is ∙ zero) ∙ sym zero
@@ -19,7 +20,8 @@ next_key host read number key is of none some =
     ]
 
 pub read_one_more : (bytes keys : List ℕ) (host number : ℕ) → AreReaders keys → host < 16 → ReadUpTo bytes host keys
-    → (u64_at bytes (64 + 8 * host) ≡ 0 → number ≡ 0) → (IsKeyOf host (u64_at bytes (64 + 8 * host)) → number ≡ u64_at bytes (64 + 8 * host))
+    → (u64_at bytes (64 + 8 * host) ≡ 0 → number ≡ 0)
+    → (IsKeyOf host (u64_at bytes (64 + 8 * host)) → number ≡ u64_at bytes (64 + 8 * host))
     → ReadUpTo bytes (host + 1) (set keys host number)
 read_one_more bytes keys host number known below before none some readers are stand h now =
     elim (cases_eq h host) [

@@ -14,7 +14,8 @@ is_free bytes Free h zero = refl
 is_free bytes (Live key beat) h zero = absurd (omega (arith, (slot_numbers bytes (Live key beat) h).state))
 is_free bytes (Recovering key by) h zero = absurd (omega (arith, (slot_numbers bytes (Recovering key by) h).state))
 
-pub is_live : (bytes : List ℕ) (slot : Slot) (key : Key) (beat : ℕ) → SpellsSlot bytes slot → u32_at bytes 8 ≡ 1 → key.0 ≡ u64_at bytes 16 → beat ≡ u64_at bytes 24 → slot ≡ Live key beat
+pub is_live : (bytes : List ℕ) (slot : Slot) (key : Key) (beat : ℕ) → SpellsSlot bytes slot → u32_at bytes 8 ≡ 1 → key.0 ≡ u64_at bytes 16
+    → beat ≡ u64_at bytes 24 → slot ≡ Live key beat
 is_live bytes Free key beat h one k b = absurd (omega (arith, (slot_numbers bytes Free h).state))
 is_live bytes (Live x n) key beat h one k b =
     let are = slot_numbers bytes (Live x n) h in
@@ -23,7 +24,8 @@ is_live bytes (Live x n) key beat h one k b =
     cc
 is_live bytes (Recovering x by) key beat h one k b = absurd (omega (arith, (slot_numbers bytes (Recovering x by) h).state))
 
-pub is_recovering : (bytes : List ℕ) (slot : Slot) (key by : Key) → SpellsSlot bytes slot → u32_at bytes 8 ≡ 2 → key.0 ≡ u64_at bytes 16 → by.0 ≡ u64_at bytes 24 → slot ≡ Recovering key by
+pub is_recovering : (bytes : List ℕ) (slot : Slot) (key by : Key) → SpellsSlot bytes slot → u32_at bytes 8 ≡ 2 → key.0 ≡ u64_at bytes 16
+    → by.0 ≡ u64_at bytes 24 → slot ≡ Recovering key by
 is_recovering bytes Free key by h two k b = absurd (omega (arith, (slot_numbers bytes Free h).state))
 is_recovering bytes (Live x n) key by h two k b = absurd (omega (arith, (slot_numbers bytes (Live x n) h).state))
 is_recovering bytes (Recovering x y) key by h two k b =

@@ -16,6 +16,3 @@ mod slot;
 pub use lock::{LockWord, read_lock, write_lock};
 pub use readers::Readers;
 pub use slot::{Slot, read_slot, write_slot};
-
-#[cfg(test)]
-mod tests;

@@ -35,12 +35,14 @@ three_parts xs i j h =
     sym (ap (λ ys. take i xs ++ ys) rest ∙ take-append-drop i xs)
 
 -- a filter of a list in three parts, of which it keeps the middle, or the ends
-pub filter_middle : {X : Type 0} (p : X → Bool) (a b c : List X) → All (λ x. p x ≡ false) a → All (λ x. p x ≡ true) b → All (λ x. p x ≡ false) c → filter p (a ++ (b ++ c)) ≡ b
+pub filter_middle : {X : Type 0} (p : X → Bool) (a b c : List X) → All (λ x. p x ≡ false) a → All (λ x. p x ≡ true) b
+    → All (λ x. p x ≡ false) c → filter p (a ++ (b ++ c)) ≡ b
 filter_middle p a b c first middle last =
     filter-append p a (b ++ c)
     ∙ rw (filter_none p a first) (filter-append p b c ∙ rw (filter_all p b middle, filter_none p c last) (append-nil b))
 
-pub filter_ends : {X : Type 0} (p : X → Bool) (a b c : List X) → All (λ x. p x ≡ true) a → All (λ x. p x ≡ false) b → All (λ x. p x ≡ true) c → filter p (a ++ (b ++ c)) ≡ a ++ c
+pub filter_ends : {X : Type 0} (p : X → Bool) (a b c : List X) → All (λ x. p x ≡ true) a → All (λ x. p x ≡ false) b
+    → All (λ x. p x ≡ true) c → filter p (a ++ (b ++ c)) ≡ a ++ c
 filter_ends p a b c first middle last =
     filter-append p a (b ++ c)
     ∙ rw (filter_all p a first) (ap (λ ys. a ++ ys) (filter-append p b c ∙ rw (filter_none p b middle, filter_all p c last) refl))

@@ -5,11 +5,13 @@ use Rattle.std.specs.Str.{bytes_eq}
 use Rattle.hint_blocks.specs.declared.entry.IndexEntry.{IndexEntry}
 use Rattle.sorted_shard.specs.Shelves.{Gains, IsSortedFrom, ShelfList, digest_of, with_digest}
 
-with_digest-append : (digest : List ℕ) (xs ys : List IndexEntry) → with_digest digest (xs ++ ys) ≡ with_digest digest xs ++ with_digest digest ys
+with_digest-append : (digest : List ℕ) (xs ys : List IndexEntry)
+    → with_digest digest (xs ++ ys) ≡ with_digest digest xs ++ with_digest digest ys
 with_digest-append digest xs ys = filter-append (λ e. bytes_eq (digest_of e) digest) xs ys
 
 -- what is sorted from a list and then from more is sorted from both
-pub IsSortedFrom-append : (xs sorted ys more : List IndexEntry) → IsSortedFrom xs sorted → IsSortedFrom (sorted ++ ys) more → IsSortedFrom (xs ++ ys) more
+pub IsSortedFrom-append : (xs sorted ys more : List IndexEntry) → IsSortedFrom xs sorted → IsSortedFrom (sorted ++ ys) more
+    → IsSortedFrom (xs ++ ys) more
 IsSortedFrom-append xs sorted ys more first then = record {
   sorted = then.sorted;
   stable = λ digest. then.stable digest

@@ -69,7 +69,8 @@ pub gains_nothing : (g : Geometry) (s : ShelfList) → s.entries ≡ [] → Gain
 unfolding entries_in
 gains_nothing g s e = record { geometry = refl; blocks = refl; long = omega arith; entries = rw e sorted_nothing }
 
-pub entries_in-more : (g : Geometry) (blocks : List Block) (i : ℕ) (d : Block) (es : List IndexEntry) → i < length blocks → es ≡ hints_in (codes "DEDEINDX") (index_entry_of g) (get_or blocks i d).0
+pub entries_in-more : (g : Geometry) (blocks : List Block) (i : ℕ) (d : Block) (es : List IndexEntry) → i < length blocks
+    → es ≡ hints_in (codes "DEDEINDX") (index_entry_of g) (get_or blocks i d).0
     → entries_in g (take (i + 1) blocks) ≡ entries_in g (take i blocks) ++ es
 unfolding entries_in
 entries_in-more g blocks i d es h e =
@@ -79,7 +80,8 @@ entries_in-more g blocks i d es h e =
     ∙ ap (λ (xs : List IndexEntry). entries_in g (take i blocks) ++ xs) (append-nil (read (get_or blocks i d)) ∙ sym e)
 
 -- one entry more of a block
-pub block_step : (g : Geometry) (old new : HintList IndexEntry) (items : List IndexEntry) (i : ℕ) (d : IndexEntry) → i < length items → length items ≤ 126
+pub block_step : (g : Geometry) (old new : HintList IndexEntry) (items : List IndexEntry) (i : ℕ) (d : IndexEntry) → i < length items
+    → length items ≤ 126
     → (let before : HintList IndexEntry = record { geometry = g; entries = take i items } in old ≡ before)
     → (let after : HintList IndexEntry = record { geometry = old.geometry; entries = pushed_over 126 old.entries (get_or items i d) } in new ≡ after)
     → (let after : HintList IndexEntry = record { geometry = g; entries = take (i + 1) items } in new ≡ after)

@@ -19,7 +19,8 @@ use Rattle.sorted_shard.specs.laws.DigestLaws.{above_is_other, below_is_other, b
 use Rattle.sorted_shard.proofs.Parts.{All-behind, All-between, All-front, filter_ends, filter_middle, filter_none, three_parts}
 
 -- an element between what is no higher and what is no lower
-sorted_insert : {X : Type 0} (lt : X → X → Bool) (xs : List X) (i : ℕ) (y : X) → IsSortedBy lt xs → i ≤ length xs → AllWithin (λ x. lt y x ≡ false) xs 0 i
+sorted_insert : {X : Type 0} (lt : X → X → Bool) (xs : List X) (i : ℕ) (y : X) → IsSortedBy lt xs → i ≤ length xs
+    → AllWithin (λ x. lt y x ≡ false) xs 0 i
     → AllWithin (λ x. lt x y ≡ false) xs i (length xs) → IsSortedBy lt (insert xs i y)
 sorted_insert lt xs i y s within below above k d z h =
     let long = length-insert xs i y within in
@@ -65,7 +66,8 @@ cond_behind : {X : Type 0} (b : Bool) (y : X) (zs : List X) → (b ≡ true → 
 cond_behind true y zs h = rw (h refl) refl
 cond_behind false y zs h = sym (append-nil zs)
 
-filter-insert : {X : Type 0} (p : X → Bool) (xs : List X) (i : ℕ) (y : X) → (p y ≡ true → All (λ x. p x ≡ false) (drop i xs)) → filter p (insert xs i y) ≡ filter p (xs ++ y ∷ [])
+filter-insert : {X : Type 0} (p : X → Bool) (xs : List X) (i : ℕ) (y : X) → (p y ≡ true → All (λ x. p x ≡ false) (drop i xs))
+    → filter p (insert xs i y) ≡ filter p (xs ++ y ∷ [])
 filter-insert p xs i y h =
     filter-append p (take i xs) (y ∷ drop i xs)
     ∙ ap (λ zs. filter p (take i xs) ++ zs) (cond_behind (p y) y (filter p (drop i xs)) (λ e. filter_none p (drop i xs) (h e)))

@@ -18,6 +18,3 @@ mod places;
 mod shelf;
 
 pub use shelf::Shelf;
-
-#[cfg(test)]
-mod tests;

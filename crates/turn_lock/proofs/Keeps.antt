@@ -31,7 +31,8 @@ abbrev Home : Type 0 → Type 0
 Home T = maybe.Option (Option T)
 
 -- the step that takes word 0 where it is 0
-abbrev Tried : {T : Type 0} → (State (Option T) (Knows T) → Type 0) → ℕ → ℕ → Knows T → List (ℕ × Option T) → State (Option T) (Knows T) → (ℕ → Me (Option T) (Knows T) → Type 0) → Type 0
+abbrev Tried : {T : Type 0} → (State (Option T) (Knows T) → Type 0) → ℕ → ℕ → Knows T → List (ℕ × Option T) → State (Option T) (Knows T)
+    → (ℕ → Me (Option T) (Knows T) → Type 0) → Type 0
 Tried {T} holds slots id v c s then = (w : Knows T) × (a : Act (Option T)) × Valid s.homes c a × holds (stepped s 0 (either (eqb (get_or s.words 0 0) 0) 1 (get_or s.words 0 0)) id c w a) × then (get_or s.words 0 0) (w, carried_after c a)
 
 module _ {T : Type 0} where

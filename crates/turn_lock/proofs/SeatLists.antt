@@ -10,7 +10,8 @@ use Rattle.turn_lock.specs.declared.knowledge.Turn.TheVariants.{Waits}
 use Rattle.turn_lock.specs.Views.{LockView, SeatView, IsSeatOf, AreNew, new_seat}
 
 -- an element of a list that was pushed to stood there before, or is the last
-get_push : {X : Type 0} (xs : List X) (y : X) (k : ℕ) (x : X) → slice_get (xs ++ y ∷ []) k ≡ Some x → (slice_get xs k ≡ Some x) ⊎ ((k ≡ length xs) × (y ≡ x))
+get_push : {X : Type 0} (xs : List X) (y : X) (k : ℕ) (x : X) → slice_get (xs ++ y ∷ []) k ≡ Some x
+    → (slice_get xs k ≡ Some x) ⊎ ((k ≡ length xs) × (y ≡ x))
 get_push [] y zero x e = inr (refl, cc)
 get_push [] y (suc k) x e = absurd (cc)
 get_push (z ∷ xs) y zero x e = inl e

@@ -21,8 +21,6 @@ mod plays;
 mod seat;
 mod seats;
 mod steps;
-#[cfg(test)]
-mod tests;
 
 pub use lock::TurnLock;
 pub use seat::TurnSeat;

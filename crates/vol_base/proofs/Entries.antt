@@ -11,7 +11,8 @@ pub entry_count : (w n : ℕ) (bytes : List ℕ) (entries : List (List ℕ)) →
 entry_count w n bytes entries seen = sym (length-entries_of w n bytes) ∙ ap length seen
 
 -- a packed block's fields stand for what fits one
-pub is_packing : (w n : ℕ) (magic bytes : List ℕ) (word : ℕ) (p : Packing) → (let q : Packing = record { magic = magic; word = word; entries = entries_of w n bytes } in q ≡ p)
+pub is_packing : (w n : ℕ) (magic bytes : List ℕ) (word : ℕ) (p : Packing)
+    → (let q : Packing = record { magic = magic; word = word; entries = entries_of w n bytes } in q ≡ p)
     → n ≤ room_of w → length magic ≡ 8 → length bytes ≡ 4032 → word < 2 ^ 32 → IsPacking w p
 is_packing w n magic bytes word p seen room eight all small =
     let fields : Packing = record { magic = magic; word = word; entries = entries_of w n bytes } in
@@ -40,7 +41,8 @@ entry_read w n k at bytes entry entries seen h there read =
     (sym (read ∙ ap (λ (m : ℕ). take m (drop at bytes)) wide ∙ ap (λ (m : ℕ). take w (drop m bytes)) there))
 
 -- a piece in the place of an entry, spelled with the place and the width that the laws have
-put_at : (w k at : ℕ) (bytes part : List ℕ) → at ≡ w * k → put_mid at (at + w - at) bytes part ≡ take (w * k) bytes ++ (part ++ drop w (drop (w * k) bytes))
+put_at : (w k at : ℕ) (bytes part : List ℕ) → at ≡ w * k
+    → put_mid at (at + w - at) bytes part ≡ take (w * k) bytes ++ (part ++ drop w (drop (w * k) bytes))
 put_at w k at bytes part there =
     let wide : at + w - at ≡ w = omega arith in
     ap (λ (m : ℕ). put_mid at m bytes part) wide ∙ ap (λ (m : ℕ). put_mid m w bytes part) there
@@ -51,7 +53,8 @@ mid_long w at bytes part within long =
     long ∙ length-take-le (at + w - at) (drop at bytes) (omega (arith, length-drop at bytes)) ∙ omega arith
 
 -- a write to an entry's bytes sets that entry
-pub entry_written : (w n k at : ℕ) (bytes part entry : List ℕ) (entries : List (List ℕ)) → entries_of w n bytes ≡ entries → k < n → n ≤ room_of w
+pub entry_written : (w n k at : ℕ) (bytes part entry : List ℕ) (entries : List (List ℕ)) → entries_of w n bytes ≡ entries → k < n
+    → n ≤ room_of w
     → length bytes ≡ 4032 → at ≡ w * k → at + w ≤ 4032 → part ≡ entry → length part ≡ length (mid_of at (at + w - at) bytes)
     → entries_of w n (put_mid at (at + w - at) bytes part) ≡ set entries k entry
 entry_written w n k at bytes part entry entries seen h room all there within same long =
@@ -72,8 +75,10 @@ entry_added w n at bytes part entry entries seen all there within same long =
 
 -- the pieces that a packed block is written in
 pub pieces_written : (w n word : ℕ) (magic bytes header padded whole result : List ℕ) → n ≤ room_of w → length bytes ≡ 4032
-    → header ≡ magic ++ bytes_of 4 n ++ bytes_of 4 word → length header ≡ 16 → padded ≡ header ++ zeros (64 - length header) → length padded ≡ 64
-    → whole ≡ padded ++ take (w * n) bytes → length whole ≡ length padded + length (take (w * n) bytes) → result ≡ whole ++ zeros (4096 - length whole)
+    → header ≡ magic ++ bytes_of 4 n ++ bytes_of 4 word → length header ≡ 16 → padded ≡ header ++ zeros (64 - length header)
+    → length padded ≡ 64
+    → whole ≡ padded ++ take (w * n) bytes → length whole ≡ length padded + length (take (w * n) bytes)
+    → result ≡ whole ++ zeros (4096 - length whole)
     → result ≡ packed_bytes w (let p : Packing = record { magic = magic; word = word; entries = entries_of w n bytes } in p)
 unfolding packed_bytes
 pieces_written w n word magic bytes header padded whole result room all h sixteen p front_long q whole_long r =

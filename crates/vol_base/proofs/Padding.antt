@@ -18,7 +18,8 @@ drop_padded len at xs low high e =
     ∙ ap zeros (omega arith)
 
 -- the front up to a later place ends in zeros
-pub take_padded : (len at : ℕ) (xs : List ℕ) → len ≤ at → at ≤ 4096 → drop len xs ≡ zeros (4096 - len) → take at xs ≡ take len xs ++ zeros (at - len)
+pub take_padded : (len at : ℕ) (xs : List ℕ) → len ≤ at → at ≤ 4096 → drop len xs ≡ zeros (4096 - len)
+    → take at xs ≡ take len xs ++ zeros (at - len)
 take_padded len at xs low high e =
     let there : at ≡ len + (at - len) = omega arith in
     ap (λ (n : ℕ). take n xs) there

@@ -37,6 +37,14 @@ impl Block {
         block
     }
 
+    /// The bytes of the block.
+    pub fn bytes(&self) -> &[u8]
+        ensures bytes { result.now ≡ self.now.0 }
+        ensures block { IsBlock self.now.0 }
+    {
+        from(&self.0, 0)
+    }
+
     /// Whether all bytes are 0.
     pub fn is_zeros(&self) -> bool
         ensures { IsTrue result ↔ (self.now.0 ≡ zeros 4096) }
@@ -67,6 +75,16 @@ impl Block {
         ensures block { IsBlock self.now.0 }
     {
         BigEndian::read_u64(from(&self.0, at))
+    }
+}
+
+/// Each block of a list is 4,096 bytes, as its type says. A contract learns it by this call, which
+/// does nothing.
+pub fn are_blocks(blocks: &[Block])
+    ensures { All (λ block. IsBlock block.0) blocks.now }
+{
+    for block in blocks {
+        let _bytes = block.bytes();
     }
 }
 

@@ -24,12 +24,10 @@ mod filled;
 mod gate;
 mod packed;
 mod plain;
-#[cfg(test)]
-mod tests;
 mod turns;
 
 pub use answer::{Answer, CutBy, MergeCounts, Next, ServeCounts, Step, Turn};
-pub use block::{Block, Digest, Key};
+pub use block::{Block, Digest, Key, are_blocks};
 pub use calls::plain_call;
 pub use command::Command;
 pub use draft::Draft;

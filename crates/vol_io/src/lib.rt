@@ -24,6 +24,3 @@ pub use memory::{MemSink, MemSource};
 pub use reading::{Failed, ReadNo, Source, read_all};
 pub use sure::{SureSink, SureSource};
 pub use writing::{Sink, WriteNo, write_all};
-
-#[cfg(test)]
-mod tests;

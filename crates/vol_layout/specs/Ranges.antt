@@ -1,4 +1,4 @@
-use Rattle.std.specs.Prelude.{◌*◌, ◌<◌, ◌≤◌, ℕ}
+use Rattle.std.specs.Prelude.{◌*◌, ◌<◌, ◌≤◌, ◌&&◌, ℕ, Bool, nat_le}
 use Rattle.vol_layout.specs.declared.geometry.Geometry.{Geometry}
 use Rattle.vol_layout.specs.declared.kind.Resource.{Resource}
 use Rattle.vol_layout.specs.declared.kind.Resource.TheVariants as resources
@@ -16,6 +16,16 @@ pub record IsGeometry (g : Geometry) : Type 0 where
   pub shards : (1 ≤ g.shards) × (g.shards ≤ 64)
   pub logs : (1 ≤ g.logs) × (g.logs ≤ 16)
   pub tables : (1 ≤ g.tables) × (g.tables ≤ 16)
+
+-- a number of things of which there is at least one
+abbrev pub is_count : ℕ → ℕ → Bool
+is_count most n = nat_le 1 n && nat_le n most
+
+-- the test of the same ranges
+abbrev pub is_geometry : Geometry → Bool
+is_geometry g =
+    is_count 16 g.hosts && is_count 64 g.files && is_count 64 g.groups
+    && is_count 16 g.parts && is_count 64 g.shards && is_count 16 g.logs && is_count 16 g.tables
 
 -- how many numbers a table block holds
 unfoldable pub per_table : ℕ

@@ -24,6 +24,3 @@ pub use geometry::{Geometry, NotVolume};
 pub use kind::{Kind, Resource, Table};
 pub use place::PER_TABLE;
 pub use sizes::PER_HINT_BLOCK;
-
-#[cfg(test)]
-mod tests;

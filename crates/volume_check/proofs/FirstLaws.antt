@@ -1,6 +1,8 @@
 -- The stages, one after the other, give the faults of the first that has any.
-use Rattle.std.proofs.Common.{◌≡◌, ◌≢◌, ◌<◌, ℕ, List, [], ◌∷◌, length, refl, ap, inl, inr, arith}
+use Rattle.std.proofs.Common.{◌≡◌, ◌≢◌, ◌<◌, ℕ, List, [], ◌∷◌, get_or, length, refl, ap, inl, inr, arith}
 use Rattle.volume_faults.specs.declared.fault.Fault.{Fault}
+use Rattle.volume_faults.specs.ReadPlaces.{IsCheckedPlace}
+use Rattle.volume_faults.specs.laws.ReadableLaws.{listed_place}
 use Rattle.volume_faults.specs.Faults.{AreOfFirst, AreTableFaults, IsOfStage}
 use Rattle.volume_faults.specs.laws.ListLaws.{Adds-lists, passed_without_fault}
 use Rattle.volume_check.specs.Metadatas.{AddsStage, Metadata, Passes}
@@ -42,3 +44,9 @@ pub ends_at_fourth : (m : Metadata) (xs ys zs : List Fault) → AddsStage 2 m []
 unfolding AreTableFaults
 ends_at_fourth m xs ys zs second none third still_none adds =
     inr (passed_by 2 m xs second none, inr (passed_by 3 m ys third still_none, last_stage m zs adds))
+
+-- the first fault of the second stage stands at a block that is read
+pub first_place : (m : Metadata) (xs : List Fault) (fault : Fault) → AddsStage 2 m [] xs → 0 < length xs → fault ≡ get_or xs 0 fault
+    → IsCheckedPlace m.geometry fault.place
+first_place m xs fault adds some at =
+    listed_place m.geometry m.counter m.image xs 0 fault (Adds-lists (IsOfStage m.geometry m.image 2) m.geometry m.counter m.image xs adds) some at

@@ -13,14 +13,14 @@ use Rattle.vol_layout.specs.Edits.{touches}
 use Rattle.vol_layout.specs.Places.{place_of}
 use Rattle.vol_layout.specs.Ranges.{HasResource}
 use Rattle.journal_block.specs.JournalRecord.{JournalRecord}
-use Rattle.image_view.specs.Held.{HoldsField, IsShown}
+use Rattle.image_view.specs.Held.{CountsEdit, HoldsField, IsShown}
 use Rattle.image_view.specs.HostKeys.{IsHeldBy, journal_key_at, lock_key_at, lock_state_at, slot_key_at}
 use Rattle.image_view.specs.Numbers.{field, journal}
 use Rattle.volume_faults.specs.declared.fault.Fault.{Fault}
 use Rattle.volume_faults.specs.declared.fault.FaultKind.TheVariants as causes
 use Rattle.volume_faults.specs.Sites.{Block, CountOf, IsRight, LockKey, PointerOf, RecordEdit, RecordKey, Site, Size, Superblock}
 use Rattle.volume_check.specs.Metadatas.{AddsOf, Metadata}
-use Rattle.volume_check.specs.Records.{AreCounted, IsRecordOf}
+use Rattle.volume_check.specs.Records.{IsRecordOf}
 use Rattle.volume_check.specs.SitesAt.{AddsAt, IsAt, IsAtBefore, IsAtEntry, entry_at}
 use Rattle.volume_check.proofs.SiteLaws.{entry_more, no_entry, none_at, one_site_unless}
 
@@ -118,17 +118,17 @@ unheld_elsewhere m kind faults no_journal no_lock = none_at 3 m kind faults (els
 
 -- what is asked of an edit, by the record that was read
 abbrev pub IsBorneOut : Metadata → JournalRecord → Edit → Type 0
-IsBorneOut m r e = HoldsField m.geometry m.image r.key e.field × AreCounted m r.edits e
+IsBorneOut m r e = HoldsField m.geometry m.image r.key e.field × CountsEdit m.geometry m.image r.edits e
 
 pub edit_right : (m : Metadata) (h k : ℕ) (r : JournalRecord) (e : Edit) → IsRecordOf m h r → slice_get r.edits k ≡ Some e → IsBorneOut m r e → IsRight m.geometry m.counter m.image (RecordEdit h k)
 edit_right m h k r e of at right other is =
     let same : e ≡ other = same_Some e other (sym at ∙ ap (λ (es : List Edit). slice_get es k) of.edits ∙ is) in
-    let P : ℕ → List Edit → Edit → Type 0 = λ key es d. HoldsField m.geometry m.image key d.field × AreCounted m es d in
+    let P : ℕ → List Edit → Edit → Type 0 = λ key es d. HoldsField m.geometry m.image key d.field × CountsEdit m.geometry m.image es d in
     subst (P (journal_key_at m.geometry m.image h) (journal m.geometry m.image h)) same (subst (λ es. P (journal_key_at m.geometry m.image h) es e) of.edits (subst (λ key. P key r.edits e) of.key right))
 
 pub edit_wrong : (m : Metadata) (h k : ℕ) (r : JournalRecord) (e : Edit) → IsRecordOf m h r → slice_get r.edits k ≡ Some e → (IsBorneOut m r e → ⊥) → IsRight m.geometry m.counter m.image (RecordEdit h k) → ⊥
 edit_wrong m h k r e of at wrong right =
-    let P : ℕ → List Edit → Type 0 = λ key es. HoldsField m.geometry m.image key e.field × AreCounted m es e in
+    let P : ℕ → List Edit → Type 0 = λ key es. HoldsField m.geometry m.image key e.field × CountsEdit m.geometry m.image es e in
     let is = right e (ap (λ (es : List Edit). slice_get es k) (sym of.edits) ∙ at) in
     wrong (subst (λ key. P key r.edits) (sym of.key) (subst (λ es. P (journal_key_at m.geometry m.image h) es) (sym of.edits) is))
 
@@ -183,14 +183,14 @@ record_edit_added m h k r e place right a b c of at here says grew before =
 abbrev pub IsNamedCounted : List Edit → ℕ → Type 0
 IsNamedCounted es n = (d : ℕ) → n ≡ d + 1 → touches es (Count d) ≡ true
 
-pub slot_counted : (m : Metadata) (es : List Edit) (e : Edit) (n : ℕ) → n ≡ field m.geometry m.image e.field → IsNamedCounted es n → IsNamedCounted es e.number → AreCounted m es e
+pub slot_counted : (m : Metadata) (es : List Edit) (e : Edit) (n : ℕ) → n ≡ field m.geometry m.image e.field → IsNamedCounted es n → IsNamedCounted es e.number → CountsEdit m.geometry m.image es e
 slot_counted m es e n read table new s d is (inl there) = table d (read ∙ ap (field m.geometry m.image) is ∙ there)
 slot_counted m es e n read table new s d is (inr here) = new d here
 
-pub table_counted : (m : Metadata) (es : List Edit) (e : Edit) (s n : ℕ) → e.field ≡ Slot s → n ≡ field m.geometry m.image e.field → AreCounted m es e → IsNamedCounted es n
+pub table_counted : (m : Metadata) (es : List Edit) (e : Edit) (s n : ℕ) → e.field ≡ Slot s → n ≡ field m.geometry m.image e.field → CountsEdit m.geometry m.image es e → IsNamedCounted es n
 table_counted m es e s n is read all d n_is = all s d is (inl (ap (field m.geometry m.image) (sym is) ∙ sym read ∙ n_is))
 
-pub new_counted : (m : Metadata) (es : List Edit) (e : Edit) (s : ℕ) → e.field ≡ Slot s → AreCounted m es e → IsNamedCounted es e.number
+pub new_counted : (m : Metadata) (es : List Edit) (e : Edit) (s : ℕ) → e.field ≡ Slot s → CountsEdit m.geometry m.image es e → IsNamedCounted es e.number
 new_counted m es e s is all d n_is = all s d is (inr n_is)
 
 -- a lock's numbers

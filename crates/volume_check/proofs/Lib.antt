@@ -1,13 +1,11 @@
 mod CountLaws
+mod FieldReads
 mod FirstLaws
 mod HoldLaws
 mod JournalReads
 mod PassedLaws
 mod RunLaws
 mod SiteLaws
-mod SpelledLaws
 mod StageLaws
 mod SumsOver
-mod TableLaws
 mod ToldLaws
-mod VisitLaws

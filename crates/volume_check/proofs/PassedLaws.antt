@@ -1,18 +1,13 @@
 -- What the second stage says of journals, tables and logical numbers.
-use Rattle.std.proofs.Common.{◌≡◌, ◌<◌, ◌≤◌, ◌+◌, ℕ, zero, suc, List, [], ◌∷◌, Some, refl, sym, ap, subst, ◌∙◌, inl, inr, arith}
+use Rattle.std.proofs.Common.{◌≡◌, ◌<◌, ℕ, List, Some, refl, sym, ap, subst, ◌∙◌, arith}
 use Rattle.std.specs.Prelude.{All, slice_get}
-use Rattle.std.specs.List.{flat_map, range_with_len}
-use Rattle.std.proofs.lemmas.Bool.{cases_Bool}
-use Rattle.std.proofs.lemmas.List.Elements.{All-head, All-tail}
 use Rattle.std.proofs.lemmas.Option.{get_or_from_slice_get, slice_get_within}
-use Rattle.vol_layout.specs.declared.geometry.Geometry.{Geometry}
 use Rattle.vol_layout.specs.declared.kind.Kind.TheVariants as kinds
 use Rattle.vol_layout.specs.declared.field.Field.{Field}
 use Rattle.vol_layout.specs.declared.field.Edit.{Edit}
-use Rattle.vol_layout.specs.Edits.{IsEdit, edited, same_field}
-use Rattle.vol_layout.specs.laws.EditLaws.{same_field-is}
+use Rattle.vol_layout.specs.Edits.{IsEdit}
 use Rattle.vol_layout.specs.Fields.{HasField, IsInRange, table_of}
-use Rattle.image_view.specs.laws.EditLaws.{edited-append}
+use Rattle.image_view.specs.laws.FileLaws.{each_in_range}
 use Rattle.image_view.specs.laws.FrameLaws.{HasTable-table_of}
 use Rattle.image_view.specs.Images.{block_at}
 use Rattle.image_view.specs.Numbers.{field, journal, logical, standing}
@@ -40,22 +35,6 @@ edit_in_range m h k r e passed of at =
 table_in_range : (m : Metadata) (x : Field) → Passes 2 m → HasField m.geometry x → IsInRange m.geometry x (field m.geometry m.image x)
 unfolding field
 table_in_range m x passed has = (passed (Block (kinds.Table (table_of x))) (refl, (HasTable-table_of m.geometry x has, tt))).1 x has refl
-
--- edits in range leave a number in range
-edited_in_range : (g : Geometry) (es : List Edit) (x : Field) (n : ℕ) → All (IsEdit g) es → IsInRange g x n → IsInRange g x (edited es x n)
-edited_in_range g [] x n each is = is
-edited_in_range g (e ∷ es) x n each is =
-    elim (cases_Bool (same_field e.field x)) [
-      | inl here ↦ let P : Field → Type 0 = λ y. IsInRange g y e.number in rw here (subst P (same_field-is e.field x here) (All-head (IsEdit g) e es each).1)
-      | inr other ↦ rw other (edited_in_range g es x n (All-tail (IsEdit g) e es each) is)
-    ]
-
-each_in_range : (g : Geometry) (j : ℕ → List Edit) (x : Field) (n a c m : ℕ) → a + c ≤ m → ((k : ℕ) → k < m → All (IsEdit g) (j k)) → IsInRange g x n
-    → IsInRange g x (edited (flat_map j (range_with_len a c)) x n)
-each_in_range g j x n a zero m le each is = is
-each_in_range g j x n a (suc c) m le each is =
-    rw (edited-append (j a) (flat_map j (range_with_len (a + 1) c)) x n)
-    (edited_in_range g (j a) x (edited (flat_map j (range_with_len (a + 1) c)) x n) (each a (omega arith)) (each_in_range g j x n (a + 1) c m (omega arith) each is))
 
 -- the logical numbers are in range
 pub logical_in_range : (m : Metadata) (x : Field) → Passes 2 m → HasField m.geometry x → IsInRange m.geometry x (logical m.geometry m.image x)

@@ -10,36 +10,40 @@ use Rattle.vol_base.specs.declared.block.Block.{Block}
 use Rattle.vol_layout.specs.declared.geometry.Geometry.{Geometry}
 use Rattle.vol_layout.specs.declared.kind.Kind.{Kind}
 use Rattle.vol_layout.specs.declared.kind.Kind.TheVariants as kinds
-use Rattle.vol_layout.specs.declared.kind.Resource.TheVariants as resources
-use Rattle.vol_layout.specs.declared.kind.Table.TheVariants as tables
-use Rattle.vol_layout.specs.Places.{place_of}
+use Rattle.vol_layout.specs.Places.{IsAtEnd, IsAtFront, place_of, front_end, further_start, further_tables}
 use Rattle.vol_layout.specs.Ranges.{HasKind}
+use Rattle.vol_layout.specs.laws.SpanLaws.{journal_at_front, lock_at_front, slot_at_front, spans_fit, table_at_front_or_end}
 use Rattle.vol_layout.specs.Regions.{regions, total}
 use Rattle.vol_layout.specs.laws.PlaceLaws.{place_of-inside}
 use Rattle.image_view.specs.Images.{Image, block_at}
 use Rattle.volume_faults.specs.laws.AgreeLaws.{Agrees}
 use Rattle.volume_faults.specs.Sites.{IsChecked}
-use Rattle.volume_check.specs.Metadatas.{AreRuns, IsRead, Metadata, front_end, further_start, further_tables, image_of_runs}
+use Rattle.volume_check.specs.Metadatas.{AreRuns, IsInRuns, Metadata, image_of_runs}
+
+-- a place of the front, and one of the end, lies in the runs
+in_front : (g : Geometry) (p : ℕ) → IsAtFront g p → (1 ≤ p) × (front_end g ≤ p → further_start g ≤ p)
+in_front g p at = (at.0, λ past. absurd (omega (arith, at.1, past)))
+
+in_end : (g : Geometry) (p : ℕ) → IsAtEnd g p → (1 ≤ p) × (front_end g ≤ p → further_start g ≤ p)
+in_end g p at = let fit = spans_fit g in (omega (arith, at.0, fit.0, fit.1), λ past. at.0)
 
 -- a kind that is checked stands behind the superblock, and in front of the logs or behind the data
-stands : (g : Geometry) (kind : Kind) → HasKind g kind → IsChecked kind → (1 ≤ place_of g kind) × (front_end g ≤ place_of g kind → further_start g ≤ place_of g kind)
-unfolding place_of regions total
+stands : (g : Geometry) (kind : Kind) → HasKind g kind → IsChecked kind
+    → (1 ≤ place_of g kind) × (front_end g ≤ place_of g kind → further_start g ≤ place_of g kind)
 stands g kinds.Super has checked = absurd checked
-stands g (kinds.Slot h) has checked = (omega arith, λ le. omega arith)
-stands g (kinds.Journal h) has checked = (omega arith, λ le. omega arith)
-stands g (kinds.Lock (resources.File f)) has checked = (omega arith, λ le. omega arith)
-stands g (kinds.Lock (resources.Part p)) has checked = (omega arith, λ le. omega arith)
-stands g (kinds.Lock (resources.Group r)) has checked = (omega arith, λ le. omega arith)
-stands g (kinds.Table (tables.File f)) has checked = (omega arith, λ le. omega arith)
-stands g (kinds.Table (tables.Group r)) has checked = (omega arith, λ le. omega arith)
-stands g (kinds.Table (tables.Part p)) has checked = (omega arith, λ le. omega arith)
-stands g (kinds.Table (tables.More f t)) has checked = (omega arith, λ le. omega arith)
+stands g (kinds.Slot h) has checked = in_front g _ (slot_at_front g h has)
+stands g (kinds.Journal h) has checked = in_front g _ (journal_at_front g h has)
+stands g (kinds.Lock r) has checked = in_front g _ (lock_at_front g r has)
+stands g (kinds.Table t) has checked = elim (table_at_front_or_end g t has) [
+  | inl at ↦ in_front g _ at
+  | inr at ↦ in_end g _ at
+]
 stands g (kinds.Log h l) has checked = absurd checked
 stands g (kinds.Shard s) has checked = absurd checked
 stands g (kinds.Request f) has checked = absurd checked
 stands g (kinds.Number d) has checked = absurd checked
 
-pub checked_is_read : (g : Geometry) (kind : Kind) → HasKind g kind → IsChecked kind → IsRead g (place_of g kind)
+pub checked_is_read : (g : Geometry) (kind : Kind) → HasKind g kind → IsChecked kind → IsInRuns g (place_of g kind)
 checked_is_read g kind has checked =
     let s = stands g kind has checked in
     record { first = s.0; last = place_of-inside g kind has; further = s.1 }
@@ -48,7 +52,7 @@ two_below : (h n l w : ℕ) → h < n → l < w → h * w + l < n * w
 two_below h n l w a b = grind arith
 
 -- and what is read is checked
-pub read_is_checked : (g : Geometry) (kind : Kind) → HasKind g kind → IsRead g (place_of g kind) → IsChecked kind
+pub read_is_checked : (g : Geometry) (kind : Kind) → HasKind g kind → IsInRuns g (place_of g kind) → IsChecked kind
 unfolding place_of regions total
 read_is_checked g kinds.Super has read = absurd (omega (arith, read.first))
 read_is_checked g (kinds.Slot h) has read = tt
@@ -60,15 +64,10 @@ read_is_checked g (kinds.Shard s) has read = absurd (omega (arith, read.further)
 read_is_checked g (kinds.Request f) has read = absurd (omega (arith, read.further))
 read_is_checked g (kinds.Number d) has read = absurd (omega (arith, read.further))
 
-pub found_is_checked : (g h : Geometry) (kind : Kind) (p : ℕ) → h ≡ g → HasKind h kind × (place_of h kind ≡ p) → IsRead g p → IsChecked kind
+pub found_is_checked : (g h : Geometry) (kind : Kind) (p : ℕ) → h ≡ g → HasKind h kind × (place_of h kind ≡ p) → IsInRuns g p → IsChecked kind
 found_is_checked g h kind p same found read =
     let here : HasKind g kind × (place_of g kind ≡ p) = subst (λ (k : Geometry). HasKind k kind × (place_of k kind ≡ p)) same found in
-    read_is_checked g kind here.0 (subst (IsRead g) (sym here.1) read)
-
--- the volume has room for both runs
-pub runs_fit : (g : Geometry) → (1 ≤ front_end g) × (front_end g + further_tables g ≤ total g)
-unfolding place_of regions total
-runs_fit g = (omega arith, omega arith)
+    read_is_checked g kind here.0 (subst (IsInRuns g) (sym here.1) read)
 
 -- the image of what was read, at the places of the first run and at those of the second
 pub first_run : (g : Geometry) (front further : List Block) (p : ℕ) → AreRuns g front further → 1 ≤ p → p < front_end g
@@ -90,7 +89,7 @@ unfolding image_of_runs
 second_run g front further p runs from =
     let fs = map (λ (block : Block). block.0) front in
     let gap : List (List ℕ) = replicate (further_start g - front_end g) [] in
-    let fit = runs_fit g in
+    let fit = spans_fit g in
     let long : length ([] ∷ fs) ≡ front_end g = ap suc (length-map front (λ (block : Block). block.0)) ∙ omega (arith, runs.first) in
     let start : length (([] ∷ fs) ++ gap) ≡ further_start g = length-append ([] ∷ fs) gap ∙ omega (arith, length-replicate (further_start g - front_end g) (let none : List ℕ = [] in none), fit) in
     get_or-append_right (([] ∷ fs) ++ gap) (map (λ (block : Block). block.0) further) (further_start g) p [] start from
@@ -123,13 +122,13 @@ runs_agree g front further image runs front_is further_is kind has checked =
     ]
 
 -- the blocks of the two runs
-pub in_first_run : (g : Geometry) (front further : List Block) (p : ℕ) (d : Block) → AreRuns g front further → IsRead g p → p ≤ length front
+pub in_first_run : (g : Geometry) (front further : List Block) (p : ℕ) (d : Block) → AreRuns g front further → IsInRuns g p → p ≤ length front
     → (get_or front (p - 1) d).0 ≡ get_or (image_of_runs g front further) p []
 in_first_run g front further p d runs read within =
     let first = read.first in
     sym (first_run g front further p runs first (omega (arith, runs.first)) ∙ get_or-map (λ (block : Block). block.0) front (p - 1) d [] (omega arith))
 
-pub in_second_run : (g : Geometry) (front further : List Block) (p n : ℕ) (d : Block) → AreRuns g front further → IsRead g p → length front < p → n ≡ total g
+pub in_second_run : (g : Geometry) (front further : List Block) (p n : ℕ) (d : Block) → AreRuns g front further → IsInRuns g p → length front < p → n ≡ total g
     → (get_or further (p - (n - length further)) d).0 ≡ get_or (image_of_runs g front further) p []
 in_second_run g front further p n d runs read behind all =
     let from = read.further (omega (arith, runs.first)) in
@@ -184,4 +183,4 @@ told_agree (Some t) g front further head start end runs head_is start_is end_is 
 
 -- how many further tables there are, as the code says it
 pub further_fit : (g : Geometry) (files more n : ℕ) → files ≡ g.files → more ≡ g.tables - 1 → n ≡ total g → (files * more ≤ n) × (n - files * more + further_tables g ≡ total g)
-further_fit g files more n f m all = let fit = runs_fit g in rw (f, m, all) (omega arith, omega arith)
+further_fit g files more n f m all = let fit = spans_fit g in rw (f, m, all) (omega arith, omega arith)

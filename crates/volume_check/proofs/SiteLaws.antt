@@ -14,7 +14,7 @@ use Rattle.image_view.specs.laws.FrameLaws.{HasTable-table_of}
 use Rattle.volume_faults.specs.declared.fault.Fault.{Fault}
 use Rattle.volume_faults.specs.Faults.{IsOfStage}
 use Rattle.volume_faults.specs.laws.ListLaws.{Adds-joined, Adds-right, Adds-same, Adds-wrong}
-use Rattle.volume_faults.specs.Order.{entry_of}
+use Rattle.volume_faults.specs.Order.{fault_entry}
 use Rattle.volume_faults.specs.Sites.{Block, CountOf, HasSite, IsRight, LockKey, PointerOf, RecordEdit, RecordKey, Site, Size, Superblock, fault_at}
 use Rattle.volume_check.specs.Metadatas.{AddsOf, AddsStage, Metadata}
 use Rattle.volume_check.specs.SitesAt.{AddsAt, IsAt, IsAtBefore, IsAtEntry, IsBefore, entry_at, kind_of}
@@ -31,7 +31,7 @@ placed g image (RecordEdit h e) = refl
 placed g image (CountOf d) = refl
 placed g image (PointerOf f i) = refl
 
-entered : (g : Geometry) (image : Image) (s : Site) → entry_of (fault_at g image s).kind ≡ entry_at s
+entered : (g : Geometry) (image : Image) (s : Site) → fault_entry (fault_at g image s).kind ≡ entry_at s
 entered g image Superblock = refl
 entered g image Size = refl
 entered g image (Block kind) = refl

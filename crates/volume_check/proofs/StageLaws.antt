@@ -4,7 +4,7 @@ use Rattle.std.specs.Prelude.{OnOk}
 use Rattle.std.proofs.lemmas.Bool.{cases_lt}
 use Rattle.vol_layout.specs.declared.geometry.Geometry.{Geometry}
 use Rattle.vol_layout.specs.declared.kind.Kind.{Kind}
-use Rattle.vol_layout.specs.Places.{place_of}
+use Rattle.vol_layout.specs.Places.{place_of, front_end, further_start}
 use Rattle.vol_layout.specs.Ranges.{HasKind}
 use Rattle.vol_layout.specs.Regions.{total}
 use Rattle.vol_layout.specs.laws.PlaceLaws.{places_apart}
@@ -16,8 +16,9 @@ use Rattle.volume_faults.specs.laws.ListLaws.{Adds-joined, Adds-right, Adds-wron
 use Rattle.volume_faults.specs.Order.{ComesBefore}
 use Rattle.volume_faults.specs.Sites.{Block, CountOf, IsChecked, IsOfKind, LockKey, PointerOf, RecordEdit, RecordKey, Site, Size, Superblock, fault_at}
 use Rattle.volume_check.specs.Blocks.{IsBlockAt, IsBlockIn}
-use Rattle.volume_check.specs.Metadatas.{AddsOf, AddsStage, Metadata, front_end, further_start}
-use Rattle.volume_check.proofs.RunLaws.{checked_is_read, runs_fit}
+use Rattle.volume_check.specs.Metadatas.{AddsOf, AddsStage, Metadata}
+use Rattle.vol_layout.specs.laws.SpanLaws.{spans_fit}
+use Rattle.volume_check.proofs.RunLaws.{checked_is_read}
 
 -- one kind of block stands at a place
 same_block : (g : Geometry) (place : ℕ) (kind : Kind) → HasKind g kind → place_of g kind ≡ place → (site : Site) → IsBlockAt g place site → site ≡ Block kind
@@ -48,11 +49,6 @@ in_order : (g : Geometry) (image : Image) (a b c d : ℕ) → b ≤ c → (s t :
 in_order g image a b c d le s t first second =
     let below : place_of g first.kind < place_of g second.kind = omega (arith, first.to, second.from) in
     rw (first.is, second.is) (inl below)
-
--- a run of no place has no fault
-pub run_begun : (m : Metadata) (from : ℕ) (old : List Fault) → AddsOf (IsBlockIn m.geometry from from) m old old
-run_begun m from old =
-    Adds-right (IsBlockIn m.geometry from from) m.geometry m.counter m.image old (λ site of. absurd (omega (arith, of.from, of.to)))
 
 -- and one place more adds that place's
 pub run_more : (m : Metadata) (from place : ℕ) (a b c : List Fault) → from ≤ place
@@ -95,7 +91,7 @@ both_runs m a b c first second =
     let A = IsBlockIn g 1 (front_end g) in
     let B = IsBlockIn g (further_start g) (total g) in
     let C = IsOfStage g m.image 2 in
-    let fit = runs_fit g in
+    let fit = spans_fit g in
     Adds-joined A B C g m.counter m.image a b c first second
     (λ site of.
     let block = block_of_stage g m.image site of in

@@ -1,6 +1,5 @@
 -- Sums that a count over pointers and slots makes.
-use Rattle.std.proofs.Common.{◌≡◌, ◌≢◌, ◌<◌, ◌≤◌, ◌+◌, ◌-◌, ◌*◌, ◌%◌, ◌^◌, ◌==◌, ℕ, zero, suc, Bool, true, false, List, length, get_or, set, replicate, sum_by, cond, Some, None, if◌then◌else◌, refl, sym, ap, ◌∙◌, inl, inr, arith, add-one, add-zero, zero-add, length-set, get_or-set_same, get_or-set_other}
-use mir.Val.{bool_byte}
+use Rattle.std.proofs.Common.{◌≡◌, ◌≢◌, ◌<◌, ◌≤◌, ◌+◌, ◌-◌, ◌*◌, ◌%◌, ◌^◌, ◌==◌, ℕ, zero, suc, true, false, List, length, get_or, set, replicate, sum_by, Some, None, if◌then◌else◌, refl, sym, ap, ◌∙◌, inl, inr, arith, length-set, get_or-set_same, get_or-set_other}
 use Rattle.std.specs.Option.{option_map_or}
 use Rattle.std.specs.List.{range_with_len}
 use Rattle.std.proofs.lemmas.Bool.{cases_eq, cases_lt, eq-eqb, ne_eqb}
@@ -11,19 +10,10 @@ use Rattle.vol_layout.specs.Ranges.{IsGeometry, arena_slots, data_blocks, limit,
 use Rattle.image_view.specs.Balances.{share}
 use Rattle.image_view.specs.Mappings.{reference_fields}
 use Rattle.image_view.specs.Numbers.{logical}
+use Rattle.image_view.specs.laws.SumLaws.{sum_by_range_more}
 use Rattle.image_view.specs.laws.UseLaws.{names_one, sum_by-reference_fields, uses-sum_by}
 use Rattle.volume_check.specs.Counts.{AreUses, Grew, named_by_file, named_by_slots}
 use Rattle.volume_check.specs.Metadatas.{Metadata}
-
--- a sum over a range with one more number
-pub sum_by_range_more : (w : ℕ → ℕ) (n : ℕ) → sum_by w (range_with_len 0 (n + 1)) ≡ sum_by w (range_with_len 0 n) + w n
-sum_by_range_more w n = rw (add-one n) (sum_from w 0 n ∙ ap (λ k. sum_by w (range_with_len 0 n) + w k) (zero-add n))
-  where
-    sum_from : (w : ℕ → ℕ) (a n : ℕ) → sum_by w (range_with_len a (suc n)) ≡ sum_by w (range_with_len a n) + w (a + n)
-    sum_from w a zero = rw (add-zero a) refl
-    sum_from w a (suc n) =
-        let next : a + 1 + n ≡ a + suc n = omega arith in
-        rw (sum_by-cons w a (range_with_len (a + 1) (suc n)), sum_by-cons w a (range_with_len (a + 1) n), sum_from w (a + 1) n, next) (omega arith)
 
 -- sums of small terms are small
 pub sum_le : (w : ℕ → ℕ) (a n : ℕ) → ((k : ℕ) → w k ≤ 1) → sum_by w (range_with_len a n) ≤ n
@@ -139,28 +129,6 @@ unfolding limit per_table
 room_for_file m n k start now grew zeros geometry few d =
     let is = grown_le (λ d. sum_by (λ f. named_by_file m f d) (range_with_len 0 n)) start now 0 (16128 * n) grew (λ d. let z = zeros.each d in omega arith) (λ d. by_files_le m n d (let t = geometry.tables.1 in omega arith)) d in
     omega arith
-
--- a sum and a count with one more number
-pub summed_more : (w : ℕ → ℕ) (n u r : ℕ) → u ≡ sum_by w (range_with_len 0 n) → r ≡ w n → u + r ≡ sum_by w (range_with_len 0 (n + 1))
-summed_more w n u r eu er = rw (sum_by_range_more w n, eu, er) refl
-
--- a test as a number
-pub bool_byte-is : (b : Bool) → bool_byte b ≡ cond b 1 0
-bool_byte-is true = refl
-bool_byte-is false = refl
-
-pub bit_le : (b : Bool) → cond b 1 0 ≤ 1
-bit_le true = omega arith
-bit_le false = omega arith
-
--- whether a number names a data block
-pub names_none : (n : ℕ) → n % 2 ^ 31 ≡ 0 → names_one n ≡ 0
-unfolding names_one
-names_none n h = rw h refl
-
-pub names_some : (n : ℕ) → n % 2 ^ 31 ≢ 0 → names_one n ≡ 1
-unfolding names_one
-names_some n h = rw (ne_eqb (n % 2 ^ 31) 0 h) refl
 
 -- the mappings of files and of slots
 pub mapped_sum : (m : Metadata) (f s : ℕ)

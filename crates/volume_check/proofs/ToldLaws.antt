@@ -1,6 +1,6 @@
 -- What was found in the blocks that were read, said of the image that the device tells.
-use Rattle.std.proofs.Common.{◌≡◌, ◌<◌, ◌≤◌, ℕ, List, [], ◌∷◌, Option, Some, None, Result, Ok, Err, length, refl, sym, ap, ◌∙◌, arith}
-use Rattle.std.specs.Prelude.{IfOk, IfSome, IsNone, OnOk, slice_get}
+use Rattle.std.proofs.Common.{◌≡◌, ◌<◌, ◌≤◌, ℕ, List, [], ◌∷◌, Option, Some, None, length, refl, sym, ap, ◌∙◌, arith}
+use Rattle.std.specs.Prelude.{IfSome, IsNone, slice_get}
 use Rattle.std.proofs.lemmas.Option.{IfSome_then, get_or_from_slice_get}
 use Rattle.vol_base.specs.Bytes.{zeros}
 use Rattle.vol_base.specs.laws.BytesLaws.{length-zeros}
@@ -18,16 +18,6 @@ use Rattle.volume_faults.specs.Faults.{AreFaults, AreTableFaults}
 use Rattle.volume_faults.specs.laws.ValidityLaws.{no_block_is_the_fault, no_superblock_is_the_fault, table_faults_are_faults, too_short_is_the_fault}
 use Rattle.volume_check.specs.Metadatas.{Metadata, Passes}
 use Rattle.volume_faults.specs.Readable.{IsReadable, IsReadableVolume}
-
--- what follows of a value that a call gave
-pub if_ok_then : {T E : Type 0} (r : Result T E) {P Q : T → Type 0} → IfOk r P → ((x : T) → P x → Q x) → IfOk r Q
-if_ok_then (Ok x) p f = f x p
-if_ok_then (Err e) p f = tt
-
--- what holds in any case
-pub on_ok_of : {T E : Type 0} (r : Result T E) {P : Type 0} → P → OnOk r P
-on_ok_of (Ok x) p = p
-on_ok_of (Err e) p = tt
 
 both_told : {T : Type 0} (P Q : T → Type 0) (told : Option T) → IfSome told P → IfSome told Q → IfSome told (λ t. P t × Q t)
 both_told P Q None p q = tt

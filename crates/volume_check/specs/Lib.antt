@@ -3,5 +3,3 @@ pub mod Counts
 pub mod Metadatas
 pub mod Records
 pub mod SitesAt
-pub mod TableFields
-pub mod Visits

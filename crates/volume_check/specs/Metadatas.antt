@@ -1,9 +1,8 @@
 -- What a check keeps of a volume.
-use Rattle.std.specs.Prelude.{◌≡◌, ◌<◌, ◌≤◌, ◌+◌, ◌-◌, ◌*◌, ◌++◌, ◌∷◌, ℕ, List, [], length, map, replicate}
+use Rattle.std.specs.Prelude.{◌≡◌, ◌<◌, ◌≤◌, ◌+◌, ◌-◌, ◌++◌, ◌∷◌, ℕ, List, [], length, map, replicate}
 use Rattle.vol_base.specs.declared.block.Block.{Block}
 use Rattle.vol_layout.specs.declared.geometry.Geometry.{Geometry}
-use Rattle.vol_layout.specs.declared.kind.Kind.TheVariants as kinds
-use Rattle.vol_layout.specs.Places.{place_of}
+use Rattle.vol_layout.specs.Places.{front_end, further_start, further_tables}
 use Rattle.vol_layout.specs.Ranges.{IsGeometry}
 use Rattle.vol_layout.specs.Regions.{total}
 use Rattle.image_view.specs.Images.{Image}
@@ -19,20 +18,8 @@ pub record Metadata : Type 0 where
   pub counter : ℕ
   pub image : Image
 
--- how many further table blocks a volume has, behind its data
-abbrev pub further_tables : Geometry → ℕ
-further_tables g = g.files * (g.tables - 1)
-
--- the first place behind the slots, journals, locks and tables at the volume's head
-abbrev pub front_end : Geometry → ℕ
-front_end g = place_of g (kinds.Log 0 0)
-
--- the place of the first further table block
-abbrev pub further_start : Geometry → ℕ
-further_start g = total g - further_tables g
-
--- the blocks that are read: those from place 1 on up to the last part table, and the further tables
-pub record IsRead (g : Geometry) (p : ℕ) : Type 0 where
+-- the place is one of the two runs that are read: from place 1 on up to the last part table, and the further tables
+pub record IsInRuns (g : Geometry) (p : ℕ) : Type 0 where
   pub first : 1 ≤ p
   pub last : p < total g
   pub further : front_end g ≤ p → further_start g ≤ p

@@ -7,7 +7,8 @@ ghost use Rattle.vol_layout.specs.Superblock.{SpellsGeometry};
 ghost use Rattle.image_view.specs.Images.{IsBlank, first_block};
 ghost use Rattle.image_view.specs.Valid.{IsVolume};
 ghost use Rattle.volume_faults.specs.Faults.{AreFaults, AreTableFaults};
-ghost use Rattle.volume_check.specs.Visits.{IsVisiting, after_visit};
+ghost use Rattle.shared_disk.specs.Calls.{last_counter};
+ghost use Rattle.shared_disk.specs.Visits.{IsVisiting, after_visit};
 
 use crate::metadata::{Metadata, ReadNo};
 use crate::stages::table_faults;
@@ -51,7 +52,7 @@ pub fn check<D: Device>(alloc: Global, disk: &mut D) -> Result<Vec<Fault>, Check
     ensures done { OnOk result (D.state disk.new ≡ after_visit (D.state disk.old)) }
     ensures left { result ≡ Err CheckNo.Blank → D.state disk.new ≡ after_visit (D.state disk.old) }
 
-    ensures no_keys { (result ≡ Err CheckNo.NoKeys) ↔ ((D.state disk.old).counter ≡ 2 ^ 59 - 1) }
+    ensures no_keys { (result ≡ Err CheckNo.NoKeys) ↔ ((D.state disk.old).counter ≡ last_counter) }
     ensures failed { result ≡ Err CheckNo.Failed → Rose (D.faults disk.old) (D.faults disk.new) }
     ensures later { D.faults disk.old ≤ D.faults disk.new }
 {

@@ -3,11 +3,11 @@ ghost use Rattle.std.specs.Prelude.{◌≡◌, ◌+◌, ◌<◌, ◌↔◌, ℕ,
 ghost use Rattle.vol_layout.specs.Edits.{touches};
 ghost use Rattle.vol_layout.specs.Fields.{HasField};
 ghost use Rattle.journal_block.specs.JournalRecord.{entry_edits, entry_key};
-ghost use Rattle.image_view.specs.Held.{HoldsField};
+ghost use Rattle.image_view.specs.Held.{CountsEdit, HoldsField};
 ghost use Rattle.image_view.specs.HostKeys.{journal_key_at};
 ghost use Rattle.image_view.specs.Numbers.{journal};
 ghost use Rattle.volume_check.specs.Metadatas.{Passes};
-ghost use Rattle.volume_check.specs.Records.{AreCounted, IsRecordOf};
+ghost use Rattle.volume_check.specs.Records.{IsRecordOf};
 ghost use Rattle.volume_check.specs.SitesAt.{AddsAt};
 
 use crate::adding::add_where;
@@ -72,7 +72,7 @@ fn add_of_record(
 // Whether the record's key holds the edit's resource, and the record edits the counts that go with it.
 fn is_borne_out(metadata: &Metadata, entry: &Record, edit: &Edit) -> bool
     requires { HasField metadata.now.geometry edit.now.field }
-    ensures { IsTrue result ↔ HoldsField metadata.now.geometry metadata.now.image entry.now.key edit.now.field × AreCounted metadata.now entry.now.edits edit.now }
+    ensures { IsTrue result ↔ HoldsField metadata.now.geometry metadata.now.image entry.now.key edit.now.field × CountsEdit metadata.now.geometry metadata.now.image entry.now.edits edit.now }
 {
     let resource = metadata.geometry().resource_of(&edit.field);
     is_held_by(metadata, resource, entry.key()) && has_counts(metadata, entry, edit)
@@ -81,7 +81,7 @@ fn is_borne_out(metadata: &Metadata, entry: &Record, edit: &Edit) -> bool
 // Whether the record edits the counts of the data numbers that a slot names before and after the edit.
 fn has_counts(metadata: &Metadata, entry: &Record, edit: &Edit) -> bool
     requires { HasField metadata.now.geometry edit.now.field }
-    ensures { IsTrue result ↔ AreCounted metadata.now entry.now.edits edit.now }
+    ensures { IsTrue result ↔ CountsEdit metadata.now.geometry metadata.now.image entry.now.edits edit.now }
 {
     match edit.field {
         Field::Slot(_) => {

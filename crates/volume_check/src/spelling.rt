@@ -1,25 +1,15 @@
 // The second stage: each block is a spelling in range of its kind.
-ghost use Rattle.std.specs.Prelude.{◌≡◌, ◌+◌, ◌<◌, ◌≤◌, ◌↔◌, ℕ, IsTrue, OnOk};
+ghost use Rattle.std.specs.Prelude.{◌≡◌, ◌+◌, ◌<◌, ◌≤◌, ℕ, OnOk};
 ghost use Rattle.vol_layout.specs.Places.{place_of};
-ghost use Rattle.vol_layout.specs.Ranges.{HasKind, IsGeometry};
-ghost use Rattle.volume_faults.specs.Sites.{IsChecked, IsOfKind};
+ghost use Rattle.vol_layout.specs.Ranges.{HasKind};
+ghost use Rattle.volume_faults.specs.Sites.{IsChecked};
 ghost use Rattle.volume_check.specs.Blocks.{IsBlockAt, IsBlockIn};
-ghost use Rattle.volume_check.specs.Metadatas.{AddsOf, AddsStage, IsRead};
-
-mod journals;
-mod keys;
-mod locks;
-mod slots;
-mod tables;
+ghost use Rattle.volume_check.specs.Metadatas.{AddsOf, AddsStage, IsInRuns};
 
 use crate::metadata::{Metadata, front_end, further_start};
-use crate::spelling::journals::is_journal;
-use crate::spelling::locks::is_lock_of;
-use crate::spelling::slots::is_slot_of;
-use crate::spelling::tables::is_table;
-use vol_base::{Block, NoMemory};
-use vol_layout::{Geometry, Kind};
-use volume_faults::{Fault, FaultKind};
+use vol_base::NoMemory;
+use vol_layout::Kind;
+use volume_faults::{Fault, FaultKind, is_of_kind};
 
 /// Adds the faults of the blocks that are no spelling in range, in the order of their places.
 pub fn add_misspelled(metadata: &Metadata, faults: &mut Vec<Fault>) -> Result<(), NoMemory>
@@ -38,7 +28,7 @@ fn add_in_run(
     faults: &mut Vec<Fault>,
 ) -> Result<(), NoMemory>
     requires order { from ≤ to }
-    requires read { (p : ℕ) → from ≤ p → p < to → IsRead metadata.now.geometry p }
+    requires read { (p : ℕ) → from ≤ p → p < to → IsInRuns metadata.now.geometry p }
     ensures { OnOk result (AddsOf (IsBlockIn metadata.now.geometry from to) metadata.now faults.old.items faults.new.items) }
 {
     for place in from..to {
@@ -49,7 +39,7 @@ fn add_in_run(
 
 // Adds the fault of the block at a place, if it has one.
 fn add_at(metadata: &Metadata, place: u64, faults: &mut Vec<Fault>) -> Result<(), NoMemory>
-    requires { IsRead metadata.now.geometry place }
+    requires { IsInRuns metadata.now.geometry place }
     ensures { OnOk result (AddsOf (IsBlockAt metadata.now.geometry place) metadata.now faults.old.items faults.new.items) }
 {
     let geometry = metadata.geometry();
@@ -82,20 +72,4 @@ fn add_of(
         kind: FaultKind::Spelling,
     });
     Ok(())
-}
-
-/// Whether the block is a spelling in range of this kind, with keys that the device gave.
-pub fn is_of_kind(geometry: &Geometry, counter: u64, kind: Kind, block: &Block) -> bool
-    requires geometry { IsGeometry geometry.now }
-    requires kind { HasKind geometry.now kind }
-    requires checked { IsChecked kind }
-    ensures { IsTrue result ↔ IsOfKind geometry.now counter kind block.now.0 }
-{
-    match kind {
-        Kind::Slot(host) => is_slot_of(counter, host, block),
-        Kind::Journal(_) => is_journal(geometry, counter, block),
-        Kind::Lock(resource) => is_lock_of(geometry, counter, resource, block),
-        Kind::Table(table) => is_table(geometry, table, block),
-        _ => false,
-    }
 }

@@ -1,1 +1,2 @@
-
+mod SpelledLaws
+mod TableLaws

@@ -1,7 +1,10 @@
 pub mod Faults
 pub mod Lists
 pub mod Order
+pub mod ReadPlaces
 pub mod Readable
 pub mod Sites
+pub mod Spellings
+pub mod TableFields
 pub mod Texts
 pub mod laws

@@ -1,5 +1,5 @@
 -- Where a check looks, what is right there, and the fault that is listed where it is not.
-use Rattle.std.specs.Prelude.{◌≡◌, ◌≢◌, ◌⊎◌, ◌+◌, ◌-◌, ◌<◌, ◌≤◌, ℕ, true, List, [], length, Some, slice_get}
+use Rattle.std.specs.Prelude.{◌≡◌, ◌≢◌, ◌-◌, ◌<◌, ◌≤◌, ℕ, List, [], length, Some, slice_get}
 use Rattle.vol_base.specs.Bytes.{u32_at}
 use Rattle.vol_base.specs.declared.block.Key.{Key}
 use Rattle.vol_layout.specs.declared.geometry.Geometry.{Geometry}
@@ -8,19 +8,18 @@ use Rattle.vol_layout.specs.declared.kind.Kind.TheVariants as kinds
 use Rattle.vol_layout.specs.declared.kind.Resource.{Resource}
 use Rattle.vol_layout.specs.declared.kind.Table.{Table}
 use Rattle.vol_layout.specs.declared.field.Field.{Field}
-use Rattle.vol_layout.specs.declared.field.Field.TheVariants.{Pointer, Slot, Count}
+use Rattle.vol_layout.specs.declared.field.Field.TheVariants.{Pointer, Count}
 use Rattle.vol_layout.specs.declared.field.Edit.{Edit}
-use Rattle.vol_layout.specs.Edits.{touches}
 use Rattle.vol_layout.specs.Fields.{HasField, IsInRange, byte_of, table_of}
 use Rattle.vol_layout.specs.Places.{place_of}
 use Rattle.vol_layout.specs.Ranges.{HasKind, HasResource}
 use Rattle.vol_layout.specs.Regions.{total}
 use Rattle.vol_layout.specs.Superblock.{SpellsGeometry}
-use Rattle.image_view.specs.Held.{HoldsField, IsShown}
+use Rattle.image_view.specs.Held.{CountsEdit, HoldsField, IsShown}
 use Rattle.image_view.specs.HostKeys.{journal_key_at, lock_key_at, lock_state_at, slot_key_at}
 use Rattle.image_view.specs.Images.{Image, block_at, first_block}
 use Rattle.image_view.specs.Mappings.{uses}
-use Rattle.image_view.specs.Numbers.{field, journal, logical}
+use Rattle.image_view.specs.Numbers.{journal, logical}
 use Rattle.image_view.specs.Pointers.{IsUnmarked}
 use Rattle.image_view.specs.Spelled.{IsJournal, IsLockOf, IsSlotOf, IsTable}
 use Rattle.volume_faults.specs.declared.fault.Fault.{Fault}
@@ -82,14 +81,6 @@ IsOfKind g counter (kinds.Number d) block = ⊥
 abbrev pub IsCovered : Geometry → Image → ℕ → Edit → Type 0
 IsCovered g image h e = HoldsField g image (journal_key_at g image h) e.field
 
--- if it is of a slot, then the count of each data number that the slot's table entry or the edit names is
--- edited too
-abbrev pub HasCounts : Geometry → Image → ℕ → Edit → Type 0
-HasCounts g image h e =
-    (s d : ℕ) → e.field ≡ Slot s
-    → (field g image (Slot s) ≡ d + 1) ⊎ (e.number ≡ d + 1)
-    → touches (journal g image h) (Count d) ≡ true
-
 -- the volume has the site
 abbrev pub HasSite : Geometry → Image → Site → Type 0
 HasSite g image Superblock = Unit {0}
@@ -109,7 +100,7 @@ IsRight g counter image (Block kind) = IsOfKind g counter kind (block_at g image
 IsRight g counter image (LockKey r) = IsShown g image (lock_key_at g image r)
 IsRight g counter image (RecordKey h) = (slot_key_at g image h ≢ 0) × (journal_key_at g image h ≡ slot_key_at g image h)
 IsRight g counter image (RecordEdit h e) =
-    (edit : Edit) → slice_get (journal g image h) e ≡ Some edit → IsCovered g image h edit × HasCounts g image h edit
+    (edit : Edit) → slice_get (journal g image h) e ≡ Some edit → IsCovered g image h edit × CountsEdit g image (journal g image h) edit
 IsRight g counter image (CountOf d) = logical g image (Count d) ≡ uses g image d
 IsRight g counter image (PointerOf f i) = IsUnmarked (logical g image (Pointer f i)) → uses g image (logical g image (Pointer f i) - 1) ≡ 1
 

@@ -6,10 +6,10 @@ use Rattle.vol_layout.specs.declared.geometry.Geometry.{Geometry}
 use Rattle.vol_layout.specs.Blank.{blank_at}
 use Rattle.image_view.specs.Images.{IsBlank}
 use Rattle.shared_disk.specs.Calls.{after_write, told_after}
-use Rattle.shared_disk.specs.State.{HasWholeImage, Stands, State, Told}
+use Rattle.shared_disk.specs.State.{HasWholeImage, Stands, State, Told, with_told}
 use Rattle.shared_disk.specs.laws.PrefixLaws.{EachImage-begun, EachImage-ends, EachImage-wrote}
 use Rattle.volume_opening.specs.Blanked.{Blanked}
-use Rattle.volume_opening.specs.Openings.{WasBlank, with_told}
+use Rattle.volume_opening.specs.Openings.{WasBlank}
 use Rattle.volume_opening.proofs.StateLaws.{stands_elsewhere, stands_there}
 
 -- a write behind block 0 leaves a blank device blank

@@ -1,5 +1,5 @@
 -- What formatting leaves, step by step.
-use Rattle.std.proofs.Common.{◌≡◌, ◌⊎◌, ◌≤◌, ◌-◌, ◌*◌, ℕ, List, Option, Some, None, length, option_map, ap, ◌∙◌, inl, inr, arith}
+use Rattle.std.proofs.Common.{◌≡◌, ◌⊎◌, ◌≤◌, ◌-◌, ℕ, List, Option, Some, None, length, option_map, ap, ◌∙◌, inl, inr, arith}
 use Rattle.std.specs.Prelude.{Err, IfSome, Ok, OnErr, OnOk, Result}
 use Rattle.std.proofs.lemmas.List.{length-set}
 use Rattle.std.proofs.lemmas.Option.{IfSome_then}
@@ -15,7 +15,9 @@ use Rattle.shared_disk.specs.Prefixes.{EachImage}
 use Rattle.shared_disk.specs.State.{HasWholeImage, State, Told}
 use Rattle.shared_disk.specs.laws.PrefixLaws.{EachImage-called, EachImage-joined, EachImage-weaker}
 use Rattle.volume_opening.specs.Blanked.{Blanked}
-use Rattle.volume_opening.proofs.SpanLaws.{HasBlanks, formatted, further_start, head_end, spans}
+use Rattle.vol_layout.specs.Places.{front_end, further_start, further_tables}
+use Rattle.vol_layout.specs.laws.SpanLaws.{spans_fit}
+use Rattle.volume_opening.proofs.SpanLaws.{HasBlanks, formatted}
 use Rattle.volume_opening.proofs.StateLaws.{stands_elsewhere, stands_there}
 
 -- both runs were written
@@ -23,12 +25,12 @@ pub record BothBlanked (g : Geometry) (first second third : State) : Type 0 wher
   pub geometry : IsGeometry g
   pub long : total g ≤ first.blocks
   pub whole : HasWholeImage third
-  pub head : Blanked g 1 (head_end g) first second
+  pub head : Blanked g 1 (front_end g) first second
   pub further : Blanked g (further_start g) (total g) second third
 
 -- the runs, as the code counts them
 pub both_blanked : (g : Geometry) (first second third : State) (head end more : ℕ) → IsGeometry g → total g ≤ first.blocks → HasWholeImage third
-    → head ≡ head_end g → end ≡ total g → more ≡ g.files * (g.tables - 1)
+    → head ≡ front_end g → end ≡ total g → more ≡ further_tables g
     → Blanked g 1 head first second → Blanked g (end - more) end second third → BothBlanked g first second third
 both_blanked g first second third head end more range long whole head_is end_is more_is one other = record {
   geometry = range;
@@ -57,7 +59,9 @@ same_size first second third g both = ap (λ (s : State). s.blocks) both.further
 pub written_both : (g : Geometry) (first second third : State) → BothBlanked g first second third
     → HasBlanks g (option_map (told_after 0 (superblock_bytes g)) third.told)
 written_both g first second third both =
-    let s = spans g in
+    let fit = spans_fit g in
+    let behind = fit.0 in
+    let apart = fit.1 in
     record {
       first = stands_there third.told 0 (superblock_bytes g) (told_long third.told third.blocks 1 both.whole (omega (arith, both.long, same_size first second third g both)));
       head = λ place above below.

@@ -16,7 +16,7 @@ use Rattle.volume_faults.specs.Faults.{AreFaults, AreTableFaults}
 use Rattle.volume_faults.specs.laws.ValidityLaws.{no_superblock_is_the_fault, table_faults_are_faults}
 use Rattle.volume_opening.specs.declared.block_zero.Found.{Found}
 use Rattle.volume_opening.specs.declared.block_zero.Found.TheVariants.{Blank, Volume, Other}
-use Rattle.volume_opening.specs.Found.{IsFound, spelled}
+use Rattle.volume_opening.specs.Found.{IsFound, found_geometry}
 use Rattle.volume_opening.specs.Misfits.{misfit_with, superblock_of}
 use Rattle.volume_opening.specs.laws.MisfitLaws.{misfit_none-long, misfit_none-same, superblock_of-blank, superblock_of-none, superblock_of-spelled, zeros_spell_none}
 
@@ -65,7 +65,7 @@ superblock_faults counter told found (Ok xs) (inr other) some is one = rw one (n
 superblock_faults counter told found (Err refusal) cases some is one = tt
 
 -- what was found at block 0
-pub superblock_of-found : (image : Image) (found : Found) → IsFound (first_block image) found → superblock_of image ≡ spelled found
+pub superblock_of-found : (image : Image) (found : Found) → IsFound (first_block image) found → superblock_of image ≡ found_geometry found
 superblock_of-found image Blank h = superblock_of-blank image h
 superblock_of-found image (Volume g) h = superblock_of-spelled g image h
 superblock_of-found image Other h = superblock_of-none image h.1

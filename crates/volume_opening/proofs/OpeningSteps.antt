@@ -10,7 +10,7 @@ use Rattle.image_view.specs.laws.GeometryLaws.{geometry_of-spelled}
 use Rattle.image_view.specs.Images.{Image, IsBlank, first_block, geometry_of}
 use Rattle.image_view.specs.Valid.{IsValid, IsVolume}
 use Rattle.shared_disk.specs.declared.answers.DiskNo.{DiskNo}
-use Rattle.shared_disk.specs.declared.answers.DiskNo.TheVariants as refusals
+use Rattle.shared_disk.specs.declared.answers.DiskNo.TheVariants as disk_refusals
 use Rattle.shared_disk.specs.Prefixes.{EachImage}
 use Rattle.shared_disk.specs.State.{State, Told}
 use Rattle.shared_disk.specs.laws.PrefixLaws.{EachImage-begun, EachImage-weaker}
@@ -20,8 +20,8 @@ use Rattle.volume_faults.specs.laws.ValidityLaws.{faultless_is_valid}
 use Rattle.volume_opening.specs.declared.block_zero.Found.{Found}
 use Rattle.volume_opening.specs.declared.block_zero.Found.TheVariants.{Blank, Volume, Other}
 use Rattle.volume_opening.specs.declared.open_no.OpenNo.{OpenNo}
-use Rattle.volume_opening.specs.declared.open_no.OpenNo.TheVariants as answers
-use Rattle.volume_opening.specs.Found.{IsFound, spelled}
+use Rattle.volume_opening.specs.declared.open_no.OpenNo.TheVariants as openings
+use Rattle.volume_opening.specs.Found.{IsFound, found_geometry}
 use Rattle.volume_opening.specs.laws.MisfitLaws.{misfit_none-same, zeros_spell_none}
 use Rattle.volume_opening.specs.Misfits.{misfit, misfit_with}
 use Rattle.volume_opening.specs.Openings.{IsOnTheWay, IsOpened, IsStillBlank, WasBlank}
@@ -62,7 +62,7 @@ still_blank (Some t) last blank images = EachImage-weaker IsBlank (IsStillBlank 
 
 -- what was found says what does not fit
 pub told_fits : (g : Geometry) (blocks : ℕ) (told : Option Told) (found : Found) (answer : Option (ℕ × ℕ)) → IfSome told (λ t. IsFound (first_block t.image) found)
-    → misfit_with g blocks (spelled found) ≡ answer → IfSome told (λ t. misfit g blocks t.image ≡ answer)
+    → misfit_with g blocks (found_geometry found) ≡ answer → IfSome told (λ t. misfit g blocks t.image ≡ answer)
 told_fits g blocks None found answer is fits = tt
 told_fits g blocks (Some t) found answer is fits = ap (misfit_with g blocks) (superblock_of-found t.image found is) ∙ fits
 
@@ -82,7 +82,7 @@ used_found (Some t) found some is = not_blank t.image found some is
 
 -- a formatted device is opened
 pub opened_formatted : (g : Geometry) (s t : State) (found : Found) → IfSome s.told (λ told. IsFound (first_block told.image) found)
-    → misfit_with g s.blocks (spelled found) ≡ None → IfSome t.told (λ told. IsFormatted g told.image) → IsOpened g s t
+    → misfit_with g s.blocks (found_geometry found) ≡ None → IfSome t.told (λ told. IsFormatted g told.image) → IsOpened g s t
 opened_formatted g s t found is fits formatted = record {
   fits = told_fits g s.blocks s.told found None is fits;
   valid = IfSome_then t.told formatted (λ told f. formatted_is_valid g t.counter told.image f);
@@ -91,31 +91,31 @@ opened_formatted g s t found is fits formatted = record {
 
 -- a refusal while a blank device was to be formatted
 pub refused_format : (g : Geometry) (s t : State) (refusal : DiskNo) (answer : OpenNo) → answer ≡ refusal_of refusal → WasBlank s.told → EachImage IsBlank s.told t.told
-    → refusal ≢ refusals.NoKeys → IsRefused g s t answer
-refused_format g s t refusals.Fenced answer is blank images keys = rw is tt
-refused_format g s t refusals.Failed answer is blank images keys = rw is tt
-refused_format g s t refusals.NoKeys answer is blank images keys = absurd (keys refl)
-refused_format g s t refusals.NoMemory answer is blank images keys = rw is (still_blank s.told t.told blank images)
+    → refusal ≢ disk_refusals.NoKeys → IsRefused g s t answer
+refused_format g s t disk_refusals.Fenced answer is blank images keys = rw is tt
+refused_format g s t disk_refusals.Failed answer is blank images keys = rw is tt
+refused_format g s t disk_refusals.NoKeys answer is blank images keys = absurd (keys refl)
+refused_format g s t disk_refusals.NoMemory answer is blank images keys = rw is (still_blank s.told t.told blank images)
 
 -- a refusal of the registration
 pub refused_entry : (g : Geometry) (s t : State) (refusal : DiskNo) (answer : OpenNo) → answer ≡ refusal_of refusal → t ≡ s → IsRefused g s t answer
-refused_entry g s t refusals.Fenced answer is same = rw is tt
-refused_entry g s t refusals.Failed answer is same = rw is tt
-refused_entry g s t refusals.NoKeys answer is same = rw is tt
-refused_entry g s t refusals.NoMemory answer is same = rw is (unchanged_blank s t same)
+refused_entry g s t disk_refusals.Fenced answer is same = rw is tt
+refused_entry g s t disk_refusals.Failed answer is same = rw is tt
+refused_entry g s t disk_refusals.NoKeys answer is same = rw is tt
+refused_entry g s t disk_refusals.NoMemory answer is same = rw is (unchanged_blank s t same)
 
 -- a volume without a fault is one of the geometry that fits
 valid_of : (g h : Geometry) (counter : ℕ) (image : Image) → geometry_of image ≡ h → g ≡ h → IsVolume counter image → IsValid g counter image
 valid_of g h counter image is same valid = let P : Geometry → Type 0 = λ k. IsValid k counter image in subst P (is ∙ sym same) valid
 
 volume_valid : (g : Geometry) (counter blocks : ℕ) (image : Image) (found : Found) → found ≢ Blank → IsFound (first_block image) found
-    → misfit_with g blocks (spelled found) ≡ None → IsVolume counter image → IsValid g counter image
+    → misfit_with g blocks (found_geometry found) ≡ None → IsVolume counter image → IsValid g counter image
 volume_valid g counter blocks image Blank some is fits valid = absurd (some refl)
 volume_valid g counter blocks image (Volume h) some is fits valid = valid_of g h counter image (geometry_of-spelled h image is) (misfit_none-same g h blocks fits) valid
 volume_valid g counter blocks image Other some is fits valid = absurd (is.1 (geometry_of image) valid.geometry)
 
 told_valid : (g : Geometry) (counter blocks : ℕ) (told : Option Told) (found : Found) (xs : List Fault) → found ≢ Blank → IfSome told (λ t. IsFound (first_block t.image) found)
-    → misfit_with g blocks (spelled found) ≡ None → xs ≡ [] → IfSome told (λ t. AreFaults counter t.image xs) → IfSome told (λ t. IsValid g counter t.image)
+    → misfit_with g blocks (found_geometry found) ≡ None → xs ≡ [] → IfSome told (λ t. AreFaults counter t.image xs) → IfSome told (λ t. IsValid g counter t.image)
 told_valid g counter blocks None found xs some is fits none are = tt
 told_valid g counter blocks (Some t) found xs some is fits none are =
     volume_valid g counter blocks t.image found some is fits (faultless_is_valid counter t.image (rw none at are))
@@ -125,7 +125,7 @@ told_used g None used blank = tt
 told_used g (Some t) used blank = absurd (used blank)
 
 opened_volume : (g : Geometry) (s t : State) (found : Found) (xs : List Fault) → t ≡ s → found ≢ Blank → IfSome s.told (λ told. IsFound (first_block told.image) found)
-    → misfit_with g s.blocks (spelled found) ≡ None → xs ≡ [] → IfSome s.told (λ told. AreFaults s.counter told.image xs) → IsOpened g s t
+    → misfit_with g s.blocks (found_geometry found) ≡ None → xs ≡ [] → IfSome s.told (λ told. AreFaults s.counter told.image xs) → IsOpened g s t
 opened_volume g s t found xs same some is fits none are =
     let told = ap (λ (u : State). u.told) same in
     let counter = ap (λ (u : State). u.counter) same in
@@ -137,7 +137,7 @@ opened_volume g s t found xs same some is fits none are =
 
 -- a device that is not blank is judged by its faults
 pub opened_judged : {E : Type 0} (g : Geometry) (s t : State) (found : Found) (listed : Result (Vec Fault Global) E) (result : Result (Unit {0}) OpenNo)
-    → t ≡ s → found ≢ Blank → IfSome s.told (λ told. IsFound (first_block told.image) found) → misfit_with g s.blocks (spelled found) ≡ None
+    → t ≡ s → found ≢ Blank → IfSome s.told (λ told. IsFound (first_block told.image) found) → misfit_with g s.blocks (found_geometry found) ≡ None
     → IfOk listed (λ xs. IfSome s.told (λ told. AreFaults s.counter told.image xs.items))
     → OnOk result (IsOkAnd listed (λ xs. xs.items ≡ [])) → OnOk result (IsOpened g s t)
 opened_judged g s t found (Ok xs) (Ok x) same some is fits are none = opened_volume g s t found xs.items same some is fits none are
@@ -145,7 +145,7 @@ opened_judged g s t found (Err e) (Ok x) same some is fits are none = absurd non
 opened_judged g s t found listed (Err answer) same some is fits are none = tt
 
 has_faults : {E : Type 0} (g : Geometry) (s t : State) (found : Found) (listed : Result (Vec Fault Global) E) (xs : List Fault)
-    → t ≡ s → found ≢ Blank → IfSome s.told (λ told. IsFound (first_block told.image) found) → misfit_with g s.blocks (spelled found) ≡ None
+    → t ≡ s → found ≢ Blank → IfSome s.told (λ told. IsFound (first_block told.image) found) → misfit_with g s.blocks (found_geometry found) ≡ None
     → IfOk listed (λ ys. IfSome s.told (λ told. AreFaults s.counter told.image ys.items))
     → IsOkAnd listed (λ ys. (ys.items ≡ xs) × (xs ≢ [])) → HasFaults g s t xs
 has_faults g s t found (Err e) xs same some is fits are one = absurd one
@@ -157,17 +157,17 @@ has_faults g s t found (Ok ys) xs same some is fits are one = record {
 }
 
 pub refused_judged : {E : Type 0} (g : Geometry) (s t : State) (found : Found) (listed : Result (Vec Fault Global) E) (result : Result (Unit {0}) OpenNo)
-    → t ≡ s → found ≢ Blank → IfSome s.told (λ told. IsFound (first_block told.image) found) → misfit_with g s.blocks (spelled found) ≡ None
+    → t ≡ s → found ≢ Blank → IfSome s.told (λ told. IsFound (first_block told.image) found) → misfit_with g s.blocks (found_geometry found) ≡ None
     → IfOk listed (λ ys. IfSome s.told (λ told. AreFaults s.counter told.image ys.items))
     → IfErr result (λ answer. IfFaults answer (λ xs. IsOkAnd listed (λ ys. (ys.items ≡ xs) × (xs ≢ []))))
-    → IfErr result (λ answer. IfGeometry answer (λ _ _. ⊥)) → result ≢ Err answers.NoKeys
+    → IfErr result (λ answer. IfGeometry answer (λ _ _. ⊥)) → result ≢ Err openings.NoKeys
     → IfErr result (IsRefused g s t)
 refused_judged g s t found listed (Ok x) same some is fits are faults geometry keys = tt
-refused_judged g s t found listed (Err (answers.Geometry a b)) same some is fits are faults geometry keys = absurd geometry
-refused_judged g s t found listed (Err (answers.Faults xs)) same some is fits are faults geometry keys = has_faults g s t found listed xs.items same some is fits are faults
-refused_judged g s t found listed (Err answers.NoKeys) same some is fits are faults geometry keys = absurd (keys refl)
-refused_judged g s t found listed (Err answers.Failed) same some is fits are faults geometry keys = tt
-refused_judged g s t found listed (Err answers.NoMemory) same some is fits are faults geometry keys = unchanged_blank s t same
+refused_judged g s t found listed (Err (openings.Geometry a b)) same some is fits are faults geometry keys = absurd geometry
+refused_judged g s t found listed (Err (openings.Faults xs)) same some is fits are faults geometry keys = has_faults g s t found listed xs.items same some is fits are faults
+refused_judged g s t found listed (Err openings.NoKeys) same some is fits are faults geometry keys = absurd (keys refl)
+refused_judged g s t found listed (Err openings.Failed) same some is fits are faults geometry keys = tt
+refused_judged g s t found listed (Err openings.NoMemory) same some is fits are faults geometry keys = unchanged_blank s t same
 
 -- what was matched on is not blank
 pub not_blank_arm : (found : Found) → ((h : Geometry) × found ≡ Volume h) ⊎ (found ≡ Other) → found ≢ Blank

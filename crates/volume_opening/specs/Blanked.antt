@@ -4,8 +4,7 @@ use Rattle.vol_layout.specs.declared.geometry.Geometry.{Geometry}
 use Rattle.vol_layout.specs.Blank.{blank_at}
 use Rattle.image_view.specs.Images.{IsBlank}
 use Rattle.shared_disk.specs.Prefixes.{EachImage}
-use Rattle.shared_disk.specs.State.{Stands, State}
-use Rattle.volume_opening.specs.Openings.{with_told}
+use Rattle.shared_disk.specs.State.{Stands, State, with_told}
 
 -- the blocks of these places became those that formatting leaves, the others stayed, and so did block 0
 -- on the way

@@ -13,7 +13,7 @@ IsFound block (Volume g) = SpellsGeometry block g
 IsFound block Other = (block ≢ zeros 4096) × ((g : Geometry) → SpellsGeometry block g → ⊥)
 
 -- the geometry that was found
-abbrev pub spelled : Found → Option Geometry
-spelled Blank = None
-spelled (Volume g) = Some g
-spelled Other = None
+abbrev pub found_geometry : Found → Option Geometry
+found_geometry Blank = None
+found_geometry (Volume g) = Some g
+found_geometry Other = None

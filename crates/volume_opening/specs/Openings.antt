@@ -5,8 +5,8 @@ use Rattle.image_view.specs.Formatted.{IsFormatted}
 use Rattle.image_view.specs.Images.{Image, IsBlank}
 use Rattle.image_view.specs.Valid.{IsValid}
 use Rattle.shared_disk.specs.Calls.{after_register}
-use Rattle.shared_disk.specs.State.{State, Told}
-use Rattle.volume_check.specs.Visits.{after_visit}
+use Rattle.shared_disk.specs.State.{State, Told, with_told}
+use Rattle.shared_disk.specs.Visits.{after_visit}
 use Rattle.volume_opening.specs.Misfits.{misfit}
 
 -- the image is blank, where it is told
@@ -27,10 +27,6 @@ pub record IsOpened (g : Geometry) (before after : State) : Type 0 where
   pub fits : IfSome before.told (λ told. misfit g before.blocks told.image ≡ None)
   pub valid : IfSome after.told (λ told. IsValid g after.counter told.image)
   pub formatted : WasBlank before.told → IfSome after.told (λ told. IsFormatted g told.image)
-
--- with another content, and all else as before
-abbrev pub with_told : Option Told → State → State
-with_told told s = record s { told = told }
 
 -- a key was registered and fenced again: the counter has risen by one, and of all else only the content
 -- may have changed

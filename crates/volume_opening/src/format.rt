@@ -7,7 +7,8 @@ ghost use Rattle.image_view.specs.Formatted.{IsFormatted};
 ghost use Rattle.image_view.specs.Images.{IsBlank};
 ghost use Rattle.shared_disk.specs.Prefixes.{EachImage};
 ghost use Rattle.volume_opening.specs.Blanked.{Blanked};
-ghost use Rattle.volume_opening.specs.Openings.{WasBlank, with_told};
+ghost use Rattle.shared_disk.specs.State.{with_told};
+ghost use Rattle.volume_opening.specs.Openings.{WasBlank};
 
 use shared_disk::{Device, DiskNo};
 use vol_base::Key;

@@ -25,9 +25,8 @@
 //! - Laws for callers: a geometry fits a blank device that is long enough, and a volume of its own (`blank_fits`, `volume_fits`); each
 //!   image on the way has the files of the one handed in, and is blank or valid where that one is (`opening_keeps_files`,
 //!   `opening_keeps_valid`).
-//! - Only tested: the order of the writes, the number of device calls (20 on a blank device of one table block a file, 19
-//!   on its volume, and one a slot that `open_idle` reads there), and that no
-//!   want of memory is answered with ample memory.
+//! - Only tested, by `volume_tests`: the order of the writes, the number of device calls (20 on a blank device of one table block a
+//!   file, 19 on its volume, and one a slot that `open_idle` reads there), and that no want of memory is answered with ample memory.
 #![tactic(auto)]
 
 mod block_zero;
@@ -36,8 +35,6 @@ mod misfit;
 mod open_no;
 mod opening;
 mod slots;
-#[cfg(test)]
-mod tests;
 mod volume;
 
 pub use open_no::OpenNo;

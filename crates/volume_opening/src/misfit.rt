@@ -2,8 +2,8 @@
 ghost use Rattle.std.specs.Prelude.{◌≡◌, ◌==◌, find, length, not};
 ghost use Rattle.std.specs.List.{zip};
 ghost use Rattle.vol_layout.specs.Ranges.{IsGeometry};
-ghost use Rattle.volume_opening.specs.Found.{spelled};
-ghost use Rattle.volume_opening.specs.Misfits.{difference, misfit_with, numbers_of, shortfall};
+ghost use Rattle.volume_opening.specs.Found.{found_geometry};
+ghost use Rattle.volume_opening.specs.Misfits.{difference, misfit_with, geometry_numbers, shortfall};
 
 use crate::block_zero::Found;
 use vol_layout::Geometry;
@@ -11,7 +11,7 @@ use vol_layout::Geometry;
 /// The two numbers of `OpenNo::Geometry`, or `None` where the geometry fits.
 pub fn find_misfit(geometry: &Geometry, found: &Found, blocks: u64) -> Option<(u64, u64)>
     requires { IsGeometry geometry.now }
-    ensures { result ≡ misfit_with geometry.now blocks (spelled found.now) }
+    ensures { result ≡ misfit_with geometry.now blocks (found_geometry found.now) }
 {
     let missing = missing_blocks(geometry, blocks);
     match found {
@@ -39,7 +39,7 @@ fn first_difference(given: &Geometry, found: &Geometry) -> Option<(u64, u64)>
 }
 
 fn numbers(geometry: &Geometry) -> [u8; 7]
-    ensures { result ≡ numbers_of geometry.now }
+    ensures { result ≡ geometry_numbers geometry.now }
 {
     [
         geometry.hosts,

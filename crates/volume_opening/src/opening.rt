@@ -4,10 +4,12 @@ ghost use Rattle.vol_base.specs.Faults.{Rose};
 ghost use Rattle.vol_layout.specs.Ranges.{IsGeometry};
 ghost use Rattle.vol_layout.specs.Regions.{total};
 ghost use Rattle.image_view.specs.Images.{first_block};
+ghost use Rattle.shared_disk.specs.Calls.{last_counter};
 ghost use Rattle.shared_disk.specs.Prefixes.{EachImage};
-ghost use Rattle.volume_opening.specs.Found.{IsFound, spelled};
+ghost use Rattle.volume_opening.specs.Found.{IsFound, found_geometry};
 ghost use Rattle.volume_opening.specs.Misfits.{misfit_with};
-ghost use Rattle.volume_opening.specs.Openings.{IsOnTheWay, IsOpened, IsVisited, WasBlank, with_told};
+ghost use Rattle.shared_disk.specs.State.{with_told};
+ghost use Rattle.volume_opening.specs.Openings.{IsOnTheWay, IsOpened, IsVisited, WasBlank};
 ghost use Rattle.volume_opening.specs.Refusals.{IsLeft, IsRefused, KeepsContent};
 ghost use Rattle.volume_opening.specs.Slots.{IsSlotPlace, TellsSlots};
 
@@ -31,7 +33,7 @@ pub fn open<D: Device>(alloc: Global, disk: &mut D, geometry: &Geometry) -> Resu
     ensures opened { OnOk result (IsOpened geometry.now (D.state disk.old) (D.state disk.new)) }
     ensures long { OnOk result (total geometry.now ≤ (D.state disk.old).blocks) }
     ensures refused { IfErr result (IsRefused geometry.now (D.state disk.old) (D.state disk.new)) }
-    ensures no_keys { (result ≡ Err OpenNo.NoKeys) ↔ ((D.state disk.old).counter ≡ 2 ^ 59 - 1) }
+    ensures no_keys { (result ≡ Err OpenNo.NoKeys) ↔ ((D.state disk.old).counter ≡ last_counter) }
     ensures failed { result ≡ Err OpenNo.Failed → Rose (D.faults disk.old) (D.faults disk.new) }
     ensures later { D.faults disk.old ≤ D.faults disk.new }
 
@@ -62,7 +64,7 @@ pub fn open_idle<D: Device>(
     ensures slots { IfOk result (λ held. IfSome (D.state disk.new).told (λ told. TellsSlots geometry.now told.image held)) }
     ensures place { IfOk result (λ held. IfSome held (λ place. IsSlotPlace geometry.now place)) }
     ensures refused { IfErr result (IsRefused geometry.now (D.state disk.old) (D.state disk.new)) }
-    ensures no_keys { (result ≡ Err OpenNo.NoKeys) ↔ ((D.state disk.old).counter ≡ 2 ^ 59 - 1) }
+    ensures no_keys { (result ≡ Err OpenNo.NoKeys) ↔ ((D.state disk.old).counter ≡ last_counter) }
     ensures failed { result ≡ Err OpenNo.Failed → Rose (D.faults disk.old) (D.faults disk.new) }
     ensures later { D.faults disk.old ≤ D.faults disk.new }
 
@@ -88,7 +90,7 @@ fn visit<D: Device>(
     ensures slots { look ≡ Look.AtSlots → IfOk result (λ held. IfSome (D.state disk.new).told (λ told. TellsSlots geometry.now told.image held)) }
     ensures place { IfOk result (λ held. IfSome held (λ place. IsSlotPlace geometry.now place)) }
     ensures refused { IfErr result (IsRefused geometry.now (D.state disk.old) (D.state disk.new)) }
-    ensures no_keys { (result ≡ Err OpenNo.NoKeys) ↔ ((D.state disk.old).counter ≡ 2 ^ 59 - 1) }
+    ensures no_keys { (result ≡ Err OpenNo.NoKeys) ↔ ((D.state disk.old).counter ≡ last_counter) }
     ensures failed { result ≡ Err OpenNo.Failed → Rose (D.faults disk.old) (D.faults disk.new) }
     ensures later { D.faults disk.old ≤ D.faults disk.new }
 
@@ -163,7 +165,7 @@ fn open_fitting<D: Device>(
     requires key { Contains (D.state disk.old).keys key.0 }
     requires geometry { IsGeometry geometry.now }
     requires found { IfSome (D.state disk.old).told (λ told. IsFound (first_block told.image) block_zero.now) }
-    requires fits { misfit_with geometry.now (D.state disk.old).blocks (spelled block_zero.now) ≡ None }
+    requires fits { misfit_with geometry.now (D.state disk.old).blocks (found_geometry block_zero.now) ≡ None }
     ensures opened { OnOk result (IsOpened geometry.now (D.state disk.old) (D.state disk.new)) }
     ensures slots { look ≡ Look.AtSlots → IfOk result (λ held. IfSome (D.state disk.new).told (λ told. TellsSlots geometry.now told.image held)) }
     ensures place { IfOk result (λ held. IfSome held (λ place. IsSlotPlace geometry.now place)) }
@@ -198,7 +200,7 @@ fn open_used<D: Device>(
     requires geometry { IsGeometry geometry.now }
     requires found { IfSome (D.state disk.old).told (λ told. IsFound (first_block told.image) block_zero.now) }
     requires not_blank { block_zero.now ≢ Found.Blank }
-    requires fits { misfit_with geometry.now (D.state disk.old).blocks (spelled block_zero.now) ≡ None }
+    requires fits { misfit_with geometry.now (D.state disk.old).blocks (found_geometry block_zero.now) ≡ None }
     ensures opened { OnOk result (IsOpened geometry.now (D.state disk.old) (D.state disk.new)) }
     ensures slots { look ≡ Look.AtSlots → IfOk result (λ held. IfSome (D.state disk.new).told (λ told. TellsSlots geometry.now told.image held)) }
     ensures place { IfOk result (λ held. IfSome held (λ place. IsSlotPlace geometry.now place)) }

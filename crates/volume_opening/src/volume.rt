@@ -4,7 +4,7 @@ ghost use Rattle.vol_base.specs.Faults.{Rose};
 ghost use Rattle.vol_layout.specs.Ranges.{IsGeometry};
 ghost use Rattle.image_view.specs.Images.{first_block};
 ghost use Rattle.volume_faults.specs.Faults.{AreFaults};
-ghost use Rattle.volume_opening.specs.Found.{IsFound, spelled};
+ghost use Rattle.volume_opening.specs.Found.{IsFound, found_geometry};
 ghost use Rattle.volume_opening.specs.Misfits.{misfit_with};
 ghost use Rattle.volume_opening.specs.Openings.{WasBlank};
 ghost use Rattle.volume_opening.specs.Refusals.{IfFaults, IfGeometry};
@@ -30,7 +30,7 @@ pub fn list_faults<D: Device>(
     requires geometry { IsGeometry geometry.now }
     requires found { IfSome (D.state disk.old).told (λ told. IsFound (first_block told.image) block_zero.now) }
     requires not_blank { block_zero.now ≢ Found.Blank }
-    requires fits { misfit_with geometry.now (D.state disk.old).blocks (spelled block_zero.now) ≡ None }
+    requires fits { misfit_with geometry.now (D.state disk.old).blocks (found_geometry block_zero.now) ≡ None }
     ensures faults { IfOk result (λ faults. IfSome (D.state disk.old).told (λ told. AreFaults (D.state disk.old).counter told.image faults.items)) }
     ensures same { D.state disk.new ≡ D.state disk.old }
     ensures not_blank { result ≢ Err CheckNo.Blank }

@@ -11,9 +11,9 @@ use Rattle.vol_layout.specs.Fields.{HasField}
 use Rattle.vol_layout.specs.Ranges.{data_blocks, per_table}
 use Rattle.image_view.specs.Images.{Image}
 use Rattle.image_view.specs.Numbers.{field}
-use Rattle.volume_tables.specs.Free.{HasGroupTables, IsLowestFree, NoneIsFreeBelow}
+use Rattle.volume_tables.specs.Free.{IsLowestFree, NoneIsFreeBelow}
 use Rattle.volume_tables.specs.laws.NumberLaws.{field-number_in}
-use Rattle.volume_tables.specs.Tables.{IsSpelledTable, IsTableOf}
+use Rattle.volume_tables.specs.Tables.{IsTableOf}
 
 in_group : (r e : ℕ) → e < per_table → (per_table * r + e) / per_table ≡ r
 unfolding per_table
@@ -76,10 +76,6 @@ none_at_start : (g : Geometry) (image : Image) → NoneIsFreeBelow g image (per_
 unfolding per_table
 none_at_start g image d has below = absurd (omega (arith, below))
 
-pub none_first : (g : Geometry) (told : Option Told) → IfSome told (λ t. NoneIsFreeBelow g t.image (per_table * 0))
-none_first g None = tt
-none_first g (Some t) = none_at_start g t.image
-
 all_passed : (g : Geometry) (image : Image) → NoneIsFreeBelow g image (per_table * g.groups) → IsLowestFree g image None
 unfolding data_blocks
 all_passed g image none d has = none d has has
@@ -87,8 +83,3 @@ all_passed g image none d has = none d has has
 pub none_free : (g : Geometry) (told : Option Told) (r : ℕ) → r ≡ g.groups → IfSome told (λ t. NoneIsFreeBelow g t.image (per_table * r)) → IfSome told (λ t. IsLowestFree g t.image None)
 none_free g None r is none = tt
 none_free g (Some t) r is none = all_passed g t.image (subst (λ (n : ℕ). NoneIsFreeBelow g t.image (per_table * n)) is none)
-
--- a group's table that is no spelling
-pub bad_group : (g : Geometry) (told : Option Told) (r : ℕ) → r < g.groups → IfSome told (λ t. IsSpelledTable g t.image (tables.Group r) → ⊥) → IfSome told (λ t. HasGroupTables g t.image → ⊥)
-bad_group g None r has bad = tt
-bad_group g (Some t) r has bad = λ all. bad (all r has)

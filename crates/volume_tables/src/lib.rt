@@ -25,8 +25,8 @@
 //!   stands the image is edited by exactly the edits that turn the old packing into the new one (`IsEdited-with_table`), and a
 //!   write of a data block changes no number (`IsEdited-with_data`); a readable volume stays readable (`IsReadable-with_table`,
 //!   `IsReadable-with_data`).
-//! - Tested on a formatted volume of two groups: numbers of each kind of field kept and read, the lowest free block until none is
-//!   left, a data block, and a table that was spoiled and is named.
+//! - `volume_tests` tests on a formatted volume of two groups: numbers of each kind of field kept and read, the lowest free block
+//!   until none is left, a data block, and a table that was spoiled and is named.
 #![tactic(auto)]
 
 mod access;
@@ -40,6 +40,3 @@ pub use fields::{number, set_number};
 pub use free::lowest_free;
 pub use reading::{read_number, read_table};
 pub use writing::{write_number, write_table};
-
-#[cfg(test)]
-mod tests;

@@ -18,7 +18,7 @@ use crate::access::AccessNo;
 use shared_disk::Device;
 use vol_base::{Block, DataNo, Key, Packed};
 use vol_layout::{Geometry, Kind, Table};
-use volume_check::is_of_kind;
+use volume_faults::is_of_kind;
 
 /// Reads a table block by one call of the device. `Bad` has its place, and comes exactly where the
 /// block that was read is no spelling in range.

@@ -10,6 +10,3 @@
 mod watch;
 
 pub use watch::{Look, Watch};
-
-#[cfg(test)]
-mod tests;

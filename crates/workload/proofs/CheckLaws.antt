@@ -13,7 +13,8 @@ pub bind_ok : {A B E : Type 0} (r : Result A E) (f : A → Result B E) (y : B) �
 bind_ok (Ok x) f y e = (x, refl, e)
 bind_ok (Err d) f y e = absurd (cc)
 
-pub checked_ok : {A : Type 0} (b : Bool) (cause : WorkloadNo) (rest : Result A WorkloadNo) (y : A) → checked b cause rest ≡ Ok y → (b ≡ true) × (rest ≡ Ok y)
+pub checked_ok : {A : Type 0} (b : Bool) (cause : WorkloadNo) (rest : Result A WorkloadNo) (y : A) → checked b cause rest ≡ Ok y
+    → (b ≡ true) × (rest ≡ Ok y)
 checked_ok true cause rest y e = (refl, e)
 checked_ok false cause rest y e = absurd (cc)
 

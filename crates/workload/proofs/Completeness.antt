@@ -27,7 +27,7 @@ use Rattle.workload.specs.Entries.{entry_of, entry_of_words, most_commands, orde
 use Rattle.workload.specs.Grammar.{barriers, entries_of, most_bytes, numbered, workload_behind, workload_of, workload_of_lines}
 use Rattle.workload.specs.Numerals.{is_numeral, number_of, numbers_of}
 use Rattle.workload.specs.Printed.{barrier_lines, command_text, later_lines, text_lines, volume_text, with_numbers}
-use Rattle.workload.specs.Ranges.{is_between}
+use Rattle.vol_layout.specs.laws.GeometryLaws.{is_geometry-IsGeometry}
 use Rattle.workload.specs.Texts.{is_shaped, is_word, lines_of, words_of}
 use Rattle.workload.specs.Verbs.{arguments, arity, command_of, name_of, verb_in, verb_of}
 use Rattle.workload.specs.VolumeLine.{are_in_range, geometry_of, volume_line, volume_numbers, volume_words}
@@ -172,7 +172,8 @@ number_is_no_barrier : (ds : List ℕ) → list_all is_ascii_digit ds ≡ true �
 number_is_no_barrier [] e = refl
 number_is_no_barrier (c ∷ cs) e = rw (digit_is_no_letter c (and_parts (is_ascii_digit c) (list_all is_ascii_digit cs) e).0) refl
 
-order-written : (g : Geometry) (before : ℕ) (line : Line) → IsAllowed g line → before < most_commands → order g before line.host line.command ≡ Ok (Order line.host line.command)
+order-written : (g : Geometry) (before : ℕ) (line : Line) → IsAllowed g line → before < most_commands
+    → order g before line.host line.command ≡ Ok (Order line.host line.command)
 unfolding order
 order-written g before line h few =
     let host : nat_lt line.host g.hosts ≡ true = lt-ltb _ _ h.host in
@@ -187,7 +188,8 @@ arguments-written g before line h few wide =
     let count : (length (map decimal (arguments line.command)) == arity (verb_in line.command)) ≡ true = eq-eqb _ _ (length-map_decimal (arguments line.command) ∙ same.1) in
     rw (count, numbers_of-written (arguments line.command) wide, same.0) (order-written g before line h few)
 
-entry_of-written : (g : Geometry) (before : ℕ) (line : Line) → line.host < 2 ^ 64 → IsAllowed g line → before < most_commands → Wide (arguments line.command)
+entry_of-written : (g : Geometry) (before : ℕ) (line : Line) → line.host < 2 ^ 64 → IsAllowed g line → before < most_commands
+    → Wide (arguments line.command)
     → entry_of g before (command_text line) ≡ Ok (Order line.host line.command)
 unfolding entry_of entry_of_words order_of_words is_shaped words_of
 entry_of-written g before line low h few wide =
@@ -207,20 +209,8 @@ unfolding entry_of entry_of_words is_shaped words_of
 entry_of-barrier g before = refl
 
 -- the first line
-between_is : (low high n : ℕ) → low ≤ n → n ≤ high → is_between low high n ≡ true
-between_is low high n h k = both _ _ (le-leb low n h) (le-leb n high k)
-
-six_in_range : (g : Geometry) → IsGeometry g → (is_between 1 16 g.hosts && is_between 1 64 g.files && is_between 1 64 g.groups && is_between 1 16 g.parts && is_between 1 64 g.shards && is_between 1 16 g.logs) ≡ true
-six_in_range g h =
-    both _ _
-    (both _ _
-    (both _ _
-    (both _ _ (both _ _ (between_is 1 16 g.hosts h.hosts.0 h.hosts.1) (between_is 1 64 g.files h.files.0 h.files.1)) (between_is 1 64 g.groups h.groups.0 h.groups.1))
-    (between_is 1 16 g.parts h.parts.0 h.parts.1))
-    (between_is 1 64 g.shards h.shards.0 h.shards.1))
-    (between_is 1 16 g.logs h.logs.0 h.logs.1)
-
-six_wide : (g : Geometry) (rest : List ℕ) → IsGeometry g → Wide rest → Wide (g.hosts ∷ g.files ∷ g.groups ∷ g.parts ∷ g.shards ∷ g.logs ∷ rest)
+six_wide : (g : Geometry) (rest : List ℕ) → IsGeometry g → Wide rest
+    → Wide (g.hosts ∷ g.files ∷ g.groups ∷ g.parts ∷ g.shards ∷ g.logs ∷ rest)
 six_wide g rest h wide =
     (omega (arith, h.hosts.1), (omega (arith, h.files.1), (omega (arith, h.groups.1), (omega (arith, h.parts.1), (omega (arith, h.shards.1), (omega (arith, h.logs.1), wide))))))
 
@@ -231,19 +221,24 @@ record ReadsNumbers (g : Geometry) (ns : List ℕ) : Type 0 where
   geometry : geometry_of ns ≡ g
   wide : Wide ns
 
-numbers_are_read : (g : Geometry) → IsGeometry g → (single : Bool) → (g.tables == 1) ≡ single → ReadsNumbers g (g.hosts ∷ g.files ∷ g.groups ∷ g.parts ∷ g.shards ∷ g.logs ∷ cond single [] (g.tables ∷ []))
+numbers_are_read : (g : Geometry) → IsGeometry g → (single : Bool) → (g.tables == 1) ≡ single
+    → ReadsNumbers g (g.hosts ∷ g.files ∷ g.groups ∷ g.parts ∷ g.shards ∷ g.logs ∷ cond single [] (g.tables ∷ []))
 numbers_are_read g h true e =
+    let ns = g.hosts ∷ g.files ∷ g.groups ∷ g.parts ∷ g.shards ∷ g.logs ∷ [] in
+    let is : geometry_of ns ≡ g =
+    ap (λ (t : ℕ). let made : Geometry = record { hosts = g.hosts; files = g.files; groups = g.groups; parts = g.parts; shards = g.shards; logs = g.logs; tables = t } in made)
+    (sym (eqb-true g.tables 1 e)) in
     record {
       count = refl;
-      range = both _ _ (six_in_range g h) refl;
-      geometry = ap (λ (t : ℕ). let made : Geometry = record { hosts = g.hosts; files = g.files; groups = g.groups; parts = g.parts; shards = g.shards; logs = g.logs; tables = t } in made) (sym (eqb-true g.tables 1 e));
+      range = both _ _ ((is_geometry-IsGeometry (geometry_of ns)).1 (subst IsGeometry (sym is) h)) refl;
+      geometry = is;
       wide = six_wide g [] h tt;
     }
 numbers_are_read g h false e =
     let low : 2 ≤ g.tables = let other = eqb-false g.tables 1 e in omega (arith, h.tables.0, other) in
     record {
       count = refl;
-      range = both _ _ (six_in_range g h) (between_is 2 16 g.tables low h.tables.1);
+      range = both _ _ ((is_geometry-IsGeometry g).1 h) (le-leb 2 g.tables low);
       geometry = refl;
       wide = six_wide g (g.tables ∷ []) h (omega (arith, h.tables.1), tt);
     }
@@ -317,7 +312,8 @@ Reads-order g at phase before line texts lines phases e f said h =
       ends = h.ends;
     }
 
-Reads-later : (g : Geometry) (at phase before : ℕ) (lines : List Line) (phases : ℕ) → g.hosts ≤ 16 → AllByRecursion (IsAllowed g) lines → IsNumbered at phase lines phases
+Reads-later : (g : Geometry) (at phase before : ℕ) (lines : List Line) (phases : ℕ) → g.hosts ≤ 16 → AllByRecursion (IsAllowed g) lines
+    → IsNumbered at phase lines phases
     → before + length lines ≤ most_commands → Reads g at phase before (later_lines phase lines phases) lines phases
 unfolding later_lines
 Reads-later g at phase before [] phases hosts h places few =
@@ -349,7 +345,8 @@ text_lines-read w h =
     ∙ ap (λ (k : ℕ). let made : Workload = record { geometry = g; lines = w.lines; phases = k } in Ok made) ends)
 
 -- a text that has the lines of a workload in range says that workload
-pub workload_of-complete : (text : List ℕ) (w : Workload) → IsWorkload w → lines_of text ≡ text_lines w → length text ≤ most_bytes → workload_of text ≡ Ok w
+pub workload_of-complete : (text : List ℕ) (w : Workload) → IsWorkload w → lines_of text ≡ text_lines w → length text ≤ most_bytes
+    → workload_of text ≡ Ok w
 unfolding workload_of
 workload_of-complete text w h e short =
     let fits : nat_le (length text) most_bytes ≡ true = le-leb _ _ short in

@@ -45,7 +45,8 @@ entry_behind g done at phase Barrier (Ok entries) = workload_is g _ _ _ _ (ap (�
 entry_behind g done at phase (Order host command) (Ok entries) = workload_is g _ _ _ _ (sym (append_assoc done _ _)) refl
 entry_behind g done at phase entry (Err refusal) = refl
 
-pub gathered-more : (g : Geometry) (done : List Line) (at phase before : ℕ) (line : List ℕ) (lines : List (List ℕ)) (entry : Entry) → entry_of g before line ≡ Ok entry
+pub gathered-more : (g : Geometry) (done : List Line) (at phase before : ℕ) (line : List ℕ) (lines : List (List ℕ)) (entry : Entry)
+    → entry_of g before line ≡ Ok entry
     → gathered g done at phase (entries_of g at before (line ∷ lines))
     ≡ gathered g (done ++ line_of at phase entry) (at + 1) (phase_behind phase entry) (entries_of g (at + 1) (before + commands_in entry) lines)
 unfolding entries_of

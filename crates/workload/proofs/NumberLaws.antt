@@ -21,7 +21,8 @@ abbrev pub behind : List ℕ → Option (List ℕ) → Option (List ℕ)
 behind front rest = option_map (λ ns. front ++ ns) rest
 
 -- one number more is read
-pub behind-more : (front : List ℕ) (n : ℕ) (rest : Option (List ℕ)) → behind (front ++ n ∷ []) rest ≡ behind front (option_map (λ ns. n ∷ ns) rest)
+pub behind-more : (front : List ℕ) (n : ℕ) (rest : Option (List ℕ))
+    → behind (front ++ n ∷ []) rest ≡ behind front (option_map (λ ns. n ∷ ns) rest)
 behind-more front n None = refl
 behind-more front n (Some ns) = ap Some (append_assoc front (n ∷ []) ns)
 
@@ -31,7 +32,8 @@ unfolding numbers_of
 numbers_of-first word words front n e =
     behind-more front n (numbers_of words) ∙ ap (behind front) (sym (ap (option_and_then (λ m. option_map (λ ns. m ∷ ns) (numbers_of words))) e))
 
-pub numbers_of-fault : (word : List ℕ) (words : List (List ℕ)) (front : List ℕ) → number_of word ≡ None → behind front (numbers_of (word ∷ words)) ≡ None
+pub numbers_of-fault : (word : List ℕ) (words : List (List ℕ)) (front : List ℕ) → number_of word ≡ None
+    → behind front (numbers_of (word ∷ words)) ≡ None
 unfolding numbers_of
 numbers_of-fault word words front e = ap (λ (o : Option ℕ). behind front (option_and_then (λ m. option_map (λ ns. m ∷ ns) (numbers_of words)) o)) e
 
@@ -58,7 +60,8 @@ unfolding number_of
 number_of-other word e = rw e refl
 
 -- a numeral is a number where its value fits
-pub number_of-numeral : {E : Type 0} (word : List ℕ) (r : Result ℕ E) → is_numeral word ≡ true → ParsesUnsigned 64 10 word r → result_ok r ≡ number_of word
+pub number_of-numeral : {E : Type 0} (word : List ℕ) (r : Result ℕ E) → is_numeral word ≡ true → ParsesUnsigned 64 10 word r
+    → result_ok r ≡ number_of word
 unfolding number_of
 number_of-numeral {E} word (Ok x) e h =
     let read = parse_digits numerals {E = E} 64 word (Ok x) h (numeral_parts word e).digits in

@@ -12,7 +12,8 @@ use Rattle.workload.proofs.Completeness.{workload_of-complete}
 use Rattle.workload.proofs.Soundness.{workload_of-sound}
 use Rattle.workload.proofs.Spelling.{workload_of-text}
 
-pub read-written : (text : List ℕ) (result : Result Workload ParseNo) → Gives (workload_of text) result → IfOk result (λ w. lines_of text ≡ text_lines w)
+pub read-written : (text : List ℕ) (result : Result Workload ParseNo) → Gives (workload_of text) result
+    → IfOk result (λ w. lines_of text ≡ text_lines w)
 read-written text (Ok w) h = workload_of-text text w h
 read-written text (Err e) h = tt
 

@@ -46,12 +46,14 @@ ended_parts-cons part [] h = absurd (omega arith)
 ended_parts-cons part (next ∷ more) h = refl
 
 -- a line, and the lines behind its end
-pub lines_of-first : (text line rest : List ℕ) → slice_split (λ byte. byte == 10) text ≡ line ∷ slice_split (λ byte. byte == 10) rest → lines_of text ≡ line ∷ lines_of rest
+pub lines_of-first : (text line rest : List ℕ) → slice_split (λ byte. byte == 10) text ≡ line ∷ slice_split (λ byte. byte == 10) rest
+    → lines_of text ≡ line ∷ lines_of rest
 unfolding lines_of
 lines_of-first text line rest e = ap ended_parts e ∙ ended_parts-cons line _ (some_part _ rest)
 
 -- a text without a line end is its one line
-pub lines_of-last : (text : List ℕ) → 0 < length text → slice_split (λ byte. byte == 10) text ≡ text ∷ [] → lines_of text ≡ text ∷ lines_of []
+pub lines_of-last : (text : List ℕ) → 0 < length text → slice_split (λ byte. byte == 10) text ≡ text ∷ []
+    → lines_of text ≡ text ∷ lines_of []
 unfolding lines_of
 lines_of-last [] h e = absurd (omega arith)
 lines_of-last (x ∷ xs) h e = ap ended_parts e
@@ -63,7 +65,8 @@ lines_of-nothing [] h = refl
 lines_of-nothing (x ∷ xs) h = absurd (omega arith)
 
 -- a line with a space has its first word and the words behind the space
-pub words_of-first : (line word rest : List ℕ) → slice_split (λ byte. byte == 32) line ≡ word ∷ slice_split (λ byte. byte == 32) rest → words_of line ≡ word ∷ words_of rest
+pub words_of-first : (line word rest : List ℕ) → slice_split (λ byte. byte == 32) line ≡ word ∷ slice_split (λ byte. byte == 32) rest
+    → words_of line ≡ word ∷ words_of rest
 unfolding words_of
 words_of-first line word rest e = e
 
@@ -73,7 +76,8 @@ unfolding words_of
 words_of-last line e = e
 
 -- whether the words behind a first word are words
-pub is_shaped-first : (line word rest : List ℕ) → slice_split (λ byte. byte == 32) line ≡ word ∷ slice_split (λ byte. byte == 32) rest → is_shaped line ≡ (is_word word && is_shaped rest)
+pub is_shaped-first : (line word rest : List ℕ) → slice_split (λ byte. byte == 32) line ≡ word ∷ slice_split (λ byte. byte == 32) rest
+    → is_shaped line ≡ (is_word word && is_shaped rest)
 unfolding is_shaped words_of
 is_shaped-first line word rest e = ap (list_all is_word) e
 

@@ -1,16 +1,16 @@
 -- A text in the grammar has a workload in range.
-use Rattle.std.proofs.Common.{◌≡◌, ◌<◌, ◌≤◌, ◌+◌, ◌^◌, ◌&&◌, ◌||◌, ◌==◌, ℕ, Bool, true, false, cond, List, [], ◌∷◌, Some, Result, Ok, Err, length, slice_index, sym, subst, ◌∙◌, arith}
+use Rattle.std.proofs.Common.{◌≡◌, ◌<◌, ◌≤◌, ◌+◌, ◌^◌, ◌&&◌, ◌||◌, ◌==◌, ℕ, true, false, cond, List, [], ◌∷◌, Some, Result, Ok, Err, length, slice_index, sym, subst, ◌∙◌, arith}
 use Rattle.std.specs.Prelude.{All, codes, nat_le, nat_lt, not}
 use Rattle.std.specs.Option.{ok_or}
 use Rattle.std.specs.Str.{bytes_eq}
 use Rattle.std.specs.Str.Parse.{digits_value}
 use Rattle.std.proofs.lemmas.Bool.{and_parts, eqb-true, ltb-true}
-use Rattle.std.proofs.lemmas.Bool.Decides.{nat_tests}
 use Rattle.std.proofs.lemmas.List.Elements.{All-cons, All-nil}
 use Rattle.std.proofs.lemmas.Option.{cond_some, option_and_then_some, same_Some}
 use Rattle.vol_base.specs.declared.command.Command.{Command}
 use Rattle.vol_layout.specs.declared.geometry.Geometry.{Geometry}
-use Rattle.vol_layout.specs.Ranges.{IsGeometry}
+use Rattle.vol_layout.specs.Ranges.{IsGeometry, is_geometry}
+use Rattle.vol_layout.specs.laws.GeometryLaws.{is_geometry-IsGeometry}
 use Rattle.workload.specs.declared.cause.WorkloadNo.{WorkloadNo}
 use Rattle.workload.specs.declared.cause.WorkloadNo.TheVariants as causes
 use Rattle.workload.specs.declared.entry.Entry.{Entry}
@@ -22,7 +22,7 @@ use Rattle.workload.specs.Checks.{◌>>=◌, checked}
 use Rattle.workload.specs.Entries.{barrier_of, entry_of, entry_of_words, most_commands, order, order_of_arguments, order_of_words}
 use Rattle.workload.specs.Grammar.{Refusal, at_line, barriers, commands_in, entries_of, most_bytes, numbered, workload_behind, workload_of, workload_of_lines, workload_with}
 use Rattle.workload.specs.Numerals.{number_of, numbers_of}
-use Rattle.workload.specs.Ranges.{is_between, is_in_range, is_own}
+use Rattle.workload.specs.Ranges.{is_in_range, is_own}
 use Rattle.workload.specs.Texts.{is_shaped, lines_of, words_of}
 use Rattle.workload.specs.Verbs.{arguments, arity, command_of, verb_of}
 use Rattle.workload.specs.VolumeLine.{are_in_range, geometry_of, volume_line, volume_numbers, volume_words}
@@ -30,37 +30,10 @@ use Rattle.workload.specs.Workloads.{IsAllowed, IsNumbered, IsWorkload}
 use Rattle.workload.proofs.CheckLaws.{at_line_ok, bind_ok, checked_ok, map_some, ok_or_some, same_Ok}
 use Rattle.workload.proofs.Spelling.{arguments-command_of, length-numbers_of}
 
-between_parts : (low high n : ℕ) → is_between low high n ≡ true → (low ≤ n) × (n ≤ high)
-between_parts low high n e = (grind (arith, nat_tests), grind (arith, nat_tests))
-
-tables_range : (seven : Bool) (n : ℕ) → cond seven (is_between 2 16 n) true ≡ true → (1 ≤ cond seven n 1) × (cond seven n 1 ≤ 16)
-tables_range true n e = let parts = between_parts 2 16 n e in (omega arith, omega arith)
-tables_range false n e = (omega arith, omega arith)
-
 -- numbers in their ranges are those of a geometry
 IsGeometry-geometry_of : (ns : List ℕ) → are_in_range ns ≡ true → IsGeometry (geometry_of ns)
 IsGeometry-geometry_of ns e =
-    let a = is_between 1 16 (slice_index ns 0) in
-    let b = is_between 1 64 (slice_index ns 1) in
-    let c = is_between 1 64 (slice_index ns 2) in
-    let d = is_between 1 16 (slice_index ns 3) in
-    let f = is_between 1 64 (slice_index ns 4) in
-    let g = is_between 1 16 (slice_index ns 5) in
-    let seven = and_parts (a && b && c && d && f && g) (cond (length ns == 7) (is_between 2 16 (slice_index ns 6)) true) e in
-    let six = and_parts (a && b && c && d && f) g seven.0 in
-    let five = and_parts (a && b && c && d) f six.0 in
-    let four = and_parts (a && b && c) d five.0 in
-    let three = and_parts (a && b) c four.0 in
-    let two = and_parts a b three.0 in
-    record {
-      hosts = between_parts 1 16 (slice_index ns 0) two.0;
-      files = between_parts 1 64 (slice_index ns 1) two.1;
-      groups = between_parts 1 64 (slice_index ns 2) three.1;
-      parts = between_parts 1 16 (slice_index ns 3) four.1;
-      shards = between_parts 1 64 (slice_index ns 4) five.1;
-      logs = between_parts 1 16 (slice_index ns 5) six.1;
-      tables = tables_range (length ns == 7) (slice_index ns 6) seven.1;
-    }
+    (is_geometry-IsGeometry (geometry_of ns)).0 (and_parts (is_geometry (geometry_of ns)) (cond (length ns == 7) (nat_le 2 (slice_index ns 6)) true) e).0
 
 volume_numbers-range : (args : List (List ℕ)) (g : Geometry) → volume_numbers args ≡ Ok g → IsGeometry g
 unfolding volume_numbers
@@ -103,7 +76,8 @@ IsAllowedEntry : Geometry → ℕ → Entry → Type 0
 IsAllowedEntry g before Barrier = Unit {0}
 IsAllowedEntry g before (Order host command) = ((at phase : ℕ) → IsAllowed g (record { at = at; phase = phase; host = host; command = command })) × (before < most_commands)
 
-allowed : (g : Geometry) (before host : ℕ) (command : Command) → host < g.hosts → is_in_range g command ≡ true → not (is_own host command) ≡ true
+allowed : (g : Geometry) (before host : ℕ) (command : Command) → host < g.hosts → is_in_range g command ≡ true
+    → not (is_own host command) ≡ true
     → All (λ n. n < 2 ^ 64) (arguments command) → before < most_commands → IsAllowedEntry g before (Order host command)
 unfolding IsAllowedEntry
 allowed g before host command h r f wide few = (λ at phase. record { host = h; range = r; foreign = f; wide = wide }, few)
@@ -121,7 +95,8 @@ order-allowed g before host command entry wide e =
     subst (IsAllowedEntry g before) (same_Ok {E = WorkloadNo} (Order host command) entry few.1)
     (allowed g before host command (ltb-true _ _ inside.0) inside.1 owned.0 wide (ltb-true _ _ few.0))
 
-arguments-allowed : (g : Geometry) (before host : ℕ) (verb : Verb) (args : List (List ℕ)) (entry : Entry) → order_of_arguments g before host verb args ≡ Ok entry → IsAllowedEntry g before entry
+arguments-allowed : (g : Geometry) (before host : ℕ) (verb : Verb) (args : List (List ℕ)) (entry : Entry)
+    → order_of_arguments g before host verb args ≡ Ok entry → IsAllowedEntry g before entry
 unfolding order_of_arguments
 arguments-allowed g before host verb args entry e =
     let numbers : Result (List ℕ) WorkloadNo = ok_or (numbers_of args) causes.Number in
@@ -135,19 +110,22 @@ arguments-allowed g before host verb args entry e =
     (subst (All (λ n. n < 2 ^ 64)) (sym (arguments-command_of verb ns long)) (numbers_of-lt args ns some))
     read.2
 
-order_of_words-allowed : (g : Geometry) (before host : ℕ) (rest : List (List ℕ)) (entry : Entry) → order_of_words g before host rest ≡ Ok entry → IsAllowedEntry g before entry
+order_of_words-allowed : (g : Geometry) (before host : ℕ) (rest : List (List ℕ)) (entry : Entry)
+    → order_of_words g before host rest ≡ Ok entry → IsAllowedEntry g before entry
 unfolding order_of_words
 order_of_words-allowed g before host [] entry e = absurd (cc)
 order_of_words-allowed g before host (name ∷ args) entry e =
     let read = bind_ok (ok_or (verb_of name) causes.Word) (λ verb. order_of_arguments g before host verb args) entry e in
     arguments-allowed g before host read.0 args entry read.2
 
-barrier-allowed : (g : Geometry) (before : ℕ) (rest : List (List ℕ)) (entry : Entry) → barrier_of rest ≡ Ok entry → IsAllowedEntry g before entry
+barrier-allowed : (g : Geometry) (before : ℕ) (rest : List (List ℕ)) (entry : Entry) → barrier_of rest ≡ Ok entry
+    → IsAllowedEntry g before entry
 unfolding IsAllowedEntry
 barrier-allowed g before [] entry e = subst (IsAllowedEntry g before) (same_Ok {E = WorkloadNo} Barrier entry e) tt
 barrier-allowed g before (word ∷ words) entry e = absurd (cc)
 
-words-allowed : (g : Geometry) (before : ℕ) (words : List (List ℕ)) (entry : Entry) → entry_of_words g before words ≡ Ok entry → IsAllowedEntry g before entry
+words-allowed : (g : Geometry) (before : ℕ) (words : List (List ℕ)) (entry : Entry) → entry_of_words g before words ≡ Ok entry
+    → IsAllowedEntry g before entry
 unfolding entry_of_words
 words-allowed g before [] entry e = absurd (cc)
 words-allowed g before (first ∷ rest) entry e =
@@ -160,7 +138,8 @@ words-allowed g before (first ∷ rest) entry e =
     ])
     e
 
-entry_of-allowed : (g : Geometry) (before : ℕ) (line : List ℕ) (entry : Entry) → entry_of g before line ≡ Ok entry → IsAllowedEntry g before entry
+entry_of-allowed : (g : Geometry) (before : ℕ) (line : List ℕ) (entry : Entry) → entry_of g before line ≡ Ok entry
+    → IsAllowedEntry g before entry
 unfolding entry_of
 entry_of-allowed g before line entry e = words-allowed g before (words_of line) entry (checked_ok (is_shaped line) causes.Shape (entry_of_words g before (words_of line)) entry e).1
 
@@ -169,7 +148,8 @@ AreAllowed : Geometry → ℕ → List Entry → Type 0
 AreAllowed g before [] = Unit {0}
 AreAllowed g before (entry ∷ entries) = IsAllowedEntry g before entry × AreAllowed g (before + commands_in entry) entries
 
-entries_of-allowed : (g : Geometry) (at before : ℕ) (lines : List (List ℕ)) (entries : List Entry) → entries_of g at before lines ≡ Ok entries → AreAllowed g before entries
+entries_of-allowed : (g : Geometry) (at before : ℕ) (lines : List (List ℕ)) (entries : List Entry)
+    → entries_of g at before lines ≡ Ok entries → AreAllowed g before entries
 unfolding entries_of AreAllowed
 entries_of-allowed g at before [] entries e = subst (AreAllowed g before) (same_Ok {E = Refusal} [] entries e) tt
 entries_of-allowed g at before (line ∷ lines) entries e =
@@ -180,14 +160,16 @@ entries_of-allowed g at before (line ∷ lines) entries e =
     subst (AreAllowed g before) (same_Ok {E = Refusal} (entry ∷ others.0) entries others.2)
     (entry_of-allowed g before line entry (at_line_ok at (entry_of g before line) entry first.1), entries_of-allowed g (at + 1) (before + commands_in entry) lines others.0 others.1)
 
-numbered-allowed : (g : Geometry) (at phase before : ℕ) (entries : List Entry) → AreAllowed g before entries → All (IsAllowed g) (numbered at phase entries)
+numbered-allowed : (g : Geometry) (at phase before : ℕ) (entries : List Entry) → AreAllowed g before entries
+    → All (IsAllowed g) (numbered at phase entries)
 unfolding numbered AreAllowed IsAllowedEntry
 numbered-allowed g at phase before [] h = All-nil (IsAllowed g)
 numbered-allowed g at phase before (Barrier ∷ entries) h = numbered-allowed g (at + 1) (phase + 1) (before + 0) entries h.1
 numbered-allowed g at phase before (Order host command ∷ entries) h =
     All-cons (IsAllowed g) _ _ (h.0.0 at phase) (numbered-allowed g (at + 1) phase (before + 1) entries h.1)
 
-numbered-few : (g : Geometry) (at phase before : ℕ) (entries : List Entry) → before ≤ most_commands → AreAllowed g before entries → before + length (numbered at phase entries) ≤ most_commands
+numbered-few : (g : Geometry) (at phase before : ℕ) (entries : List Entry) → before ≤ most_commands → AreAllowed g before entries
+    → before + length (numbered at phase entries) ≤ most_commands
 unfolding numbered AreAllowed IsAllowedEntry
 numbered-few g at phase before [] low h = omega arith
 numbered-few g at phase before (Barrier ∷ entries) low h =
@@ -199,7 +181,8 @@ numbered-few g at phase before (Order host command ∷ entries) low h =
     omega arith
 
 -- a line that ends a phase
-numbered_barrier : (at phase : ℕ) (lines : List Line) (phases : ℕ) → IsNumbered (at + 1) (phase + 1) lines phases → IsNumbered at phase lines phases
+numbered_barrier : (at phase : ℕ) (lines : List Line) (phases : ℕ) → IsNumbered (at + 1) (phase + 1) lines phases
+    → IsNumbered at phase lines phases
 numbered_barrier at phase [] phases h = omega arith
 numbered_barrier at phase (line ∷ lines) phases h =
     let ends = h.0 in

@@ -9,6 +9,7 @@ use Rattle.std.proofs.lemmas.Option.{option_and_then_some, same_Some}
 use Rattle.std.proofs.lemmas.Slice.Eq.{bytes_eq-Decides}
 use Rattle.vol_base.specs.declared.command.Command.{Command}
 use Rattle.vol_layout.specs.declared.geometry.Geometry.{Geometry}
+use Rattle.vol_layout.specs.Ranges.{is_geometry}
 use Rattle.vol_layout.specs.Superblock.{written_numbers}
 use Rattle.workload.specs.declared.cause.WorkloadNo.{WorkloadNo}
 use Rattle.workload.specs.declared.cause.WorkloadNo.TheVariants as causes
@@ -23,7 +24,7 @@ use Rattle.workload.specs.Entries.{barrier_of, entry_of, entry_of_words, most_co
 use Rattle.workload.specs.Grammar.{Refusal, at_line, barriers, commands_in, entries_of, most_bytes, numbered, workload_behind, workload_of, workload_of_lines, workload_with}
 use Rattle.workload.specs.Numerals.{number_of, numbers_of}
 use Rattle.workload.specs.Printed.{barrier_lines, command_text, later_lines, text_lines, volume_text, with_numbers}
-use Rattle.workload.specs.Ranges.{is_between, is_in_range, is_own}
+use Rattle.workload.specs.Ranges.{is_in_range, is_own}
 use Rattle.workload.specs.Texts.{is_shaped, lines_of, words_of}
 use Rattle.workload.specs.Verbs.{arguments, arity, command_of, name_of, verb_in, verb_of, verbs}
 use Rattle.workload.specs.VolumeLine.{are_in_range, geometry_of, volume_line, volume_numbers, volume_words}
@@ -140,7 +141,8 @@ abbrev pub entry_text : Entry → List ℕ
 entry_text Barrier = codes "barrier"
 entry_text (Order host command) = decimal host ++ 32 ∷ with_numbers (name_of (verb_in command)) (arguments command)
 
-pub order_is : (g : Geometry) (before host : ℕ) (command : Command) (entry : Entry) → order g before host command ≡ Ok entry → Order host command ≡ entry
+pub order_is : (g : Geometry) (before host : ℕ) (command : Command) (entry : Entry) → order g before host command ≡ Ok entry
+    → Order host command ≡ entry
 unfolding order
 order_is g before host command entry e =
     let counted : Result Entry WorkloadNo = checked (nat_lt before most_commands) causes.Many (Ok (Order host command)) in
@@ -153,7 +155,8 @@ order_is g before host command entry e =
 abbrev order_of_numbers : Geometry → ℕ → ℕ → Verb → List ℕ → Result Entry WorkloadNo
 order_of_numbers g before host verb ns = order g before host (command_of verb (slice_index ns 0) (slice_index ns 1) (slice_index ns 2))
 
-arguments_text : (g : Geometry) (before host : ℕ) (verb : Verb) (args : List (List ℕ)) (entry : Entry) → order_of_arguments g before host verb args ≡ Ok entry
+arguments_text : (g : Geometry) (before host : ℕ) (verb : Verb) (args : List (List ℕ)) (entry : Entry)
+    → order_of_arguments g before host verb args ≡ Ok entry
     → decimal host ++ 32 ∷ join_with_byte 32 (name_of verb ∷ args) ≡ entry_text entry
 unfolding order_of_arguments
 arguments_text g before host verb args entry e =
@@ -172,7 +175,8 @@ arguments_text g before host verb args entry e =
     ∙ ap (λ (v : Verb). decimal host ++ 32 ∷ with_numbers (name_of v) (arguments command)) (sym (verb_in-command_of verb (slice_index ns 0) (slice_index ns 1) (slice_index ns 2)))
     ∙ ap entry_text ordered
 
-order_text : (g : Geometry) (before : ℕ) (first : List ℕ) (rest : List (List ℕ)) (host : ℕ) (entry : Entry) → first ≡ decimal host → order_of_words g before host rest ≡ Ok entry
+order_text : (g : Geometry) (before : ℕ) (first : List ℕ) (rest : List (List ℕ)) (host : ℕ) (entry : Entry) → first ≡ decimal host
+    → order_of_words g before host rest ≡ Ok entry
     → join_with_byte 32 (first ∷ rest) ≡ entry_text entry
 unfolding order_of_words
 order_text g before first [] host entry h e = absurd (cc)
@@ -183,11 +187,13 @@ order_text g before first (name ∷ args) host entry h e =
     ∙ ap (λ (word : List ℕ). decimal host ++ 32 ∷ join_with_byte 32 (word ∷ args)) name_is
     ∙ arguments_text g before host read.0 args entry read.2
 
-barrier_text : (rest : List (List ℕ)) (first : List ℕ) (entry : Entry) → first ≡ codes "barrier" → barrier_of rest ≡ Ok entry → join_with_byte 32 (first ∷ rest) ≡ entry_text entry
+barrier_text : (rest : List (List ℕ)) (first : List ℕ) (entry : Entry) → first ≡ codes "barrier" → barrier_of rest ≡ Ok entry
+    → join_with_byte 32 (first ∷ rest) ≡ entry_text entry
 barrier_text [] first entry h e = h ∙ ap entry_text (same_Ok {E = WorkloadNo} Barrier entry e)
 barrier_text (word ∷ words) first entry h e = absurd (cc)
 
-words_text : (g : Geometry) (before : ℕ) (words : List (List ℕ)) (entry : Entry) → entry_of_words g before words ≡ Ok entry → join_with_byte 32 words ≡ entry_text entry
+words_text : (g : Geometry) (before : ℕ) (words : List (List ℕ)) (entry : Entry) → entry_of_words g before words ≡ Ok entry
+    → join_with_byte 32 words ≡ entry_text entry
 unfolding entry_of_words
 words_text g before [] entry e = absurd (cc)
 words_text g before (first ∷ rest) entry e =
@@ -202,7 +208,8 @@ words_text g before (first ∷ rest) entry e =
     e
 
 -- a line that says something is the line of its entry
-pub entry_of-text : (g : Geometry) (before : ℕ) (line : List ℕ) (entry : Entry) → entry_of g before line ≡ Ok entry → line ≡ entry_text entry
+pub entry_of-text : (g : Geometry) (before : ℕ) (line : List ℕ) (entry : Entry) → entry_of g before line ≡ Ok entry
+    → line ≡ entry_text entry
 unfolding entry_of
 entry_of-text g before line entry e =
     sym (joined_words line)
@@ -219,13 +226,13 @@ written-six (a ∷ b ∷ c ∷ []) h = absurd (omega arith)
 written-six (a ∷ b ∷ c ∷ d ∷ []) h = absurd (omega arith)
 written-six (a ∷ b ∷ c ∷ d ∷ e ∷ []) h = absurd (omega arith)
 
-seventh : (n : ℕ) → is_between 2 16 n ≡ true → (n == 1) ≡ false
+seventh : (n : ℕ) → nat_le 2 n ≡ true → (n == 1) ≡ false
 seventh n e = grind (arith, nat_tests)
 
 written-seven : (ns : List ℕ) → length ns ≡ 7 → are_in_range ns ≡ true → written_numbers (geometry_of ns) ≡ ns
 written-seven (a ∷ b ∷ c ∷ d ∷ e ∷ f ∷ n ∷ []) h ranged =
-    let front = is_between 1 16 a && is_between 1 64 b && is_between 1 64 c && is_between 1 16 d && is_between 1 64 e && is_between 1 16 f in
-    rw (seventh n (and_parts front (is_between 2 16 n) ranged).1) refl
+    let ns = a ∷ b ∷ c ∷ d ∷ e ∷ f ∷ n ∷ [] in
+    rw (seventh n (and_parts (is_geometry (geometry_of ns)) (nat_le 2 n) ranged).1) refl
 written-seven (a ∷ b ∷ c ∷ d ∷ e ∷ f ∷ n ∷ m ∷ ns) h ranged = absurd (omega arith)
 written-seven [] h ranged = absurd (omega arith)
 written-seven (a ∷ []) h ranged = absurd (omega arith)
@@ -251,7 +258,8 @@ six_or_seven n e =
 abbrev geometry_of_numbers : List ℕ → Result Geometry WorkloadNo
 geometry_of_numbers ns = checked (are_in_range ns) causes.Range (Ok (geometry_of ns))
 
-numbers_text : (args : List (List ℕ)) (g : Geometry) → volume_numbers args ≡ Ok g → join_with_byte 32 (codes "volume" ∷ args) ≡ volume_text g
+numbers_text : (args : List (List ℕ)) (g : Geometry) → volume_numbers args ≡ Ok g
+    → join_with_byte 32 (codes "volume" ∷ args) ≡ volume_text g
 unfolding volume_numbers
 numbers_text args g e =
     let numbers : Result (List ℕ) WorkloadNo = ok_or (numbers_of args) causes.Number in
@@ -281,7 +289,8 @@ volume_line-text line g e =
     sym (joined_words line) ∙ volume_words-text (words_of line) g (checked_ok (is_shaped line) causes.Shape (volume_words (words_of line)) g e).1
 
 -- the lines of entries
-entries_of-text : (g : Geometry) (at before : ℕ) (lines : List (List ℕ)) (entries : List Entry) → entries_of g at before lines ≡ Ok entries → lines ≡ map entry_text entries
+entries_of-text : (g : Geometry) (at before : ℕ) (lines : List (List ℕ)) (entries : List Entry)
+    → entries_of g at before lines ≡ Ok entries → lines ≡ map entry_text entries
 unfolding entries_of
 entries_of-text g at before [] entries e = ap (map entry_text) (same_Ok {E = Refusal} [] entries e)
 entries_of-text g at before (line ∷ lines) entries e =
@@ -320,7 +329,8 @@ later_lines-barrier phase (line ∷ lines) phases h room =
     let more : line.phase - phase ≡ suc (line.phase - (phase + 1)) = omega arith in
     ap (λ (n : ℕ). barrier_lines n ++ command_text line ∷ later_lines line.phase lines phases) more
 
-later_lines-numbered : (at phase : ℕ) (entries : List Entry) → later_lines phase (numbered at phase entries) (barriers entries + phase + 1) ≡ map entry_text entries
+later_lines-numbered : (at phase : ℕ) (entries : List Entry)
+    → later_lines phase (numbered at phase entries) (barriers entries + phase + 1) ≡ map entry_text entries
 unfolding later_lines numbered barriers
 later_lines-numbered at phase [] =
     let all : 0 + phase + 1 - 1 - phase ≡ 0 = omega arith in
@@ -336,7 +346,8 @@ later_lines-numbered at phase (Order host command ∷ entries) =
     ap (λ (n : ℕ). barrier_lines n ++ text ∷ later_lines phase (numbered (at + 1) phase entries) (barriers entries + phase + 1)) same
     ∙ ap (λ (texts : List (List ℕ)). text ∷ texts) (later_lines-numbered (at + 1) phase entries)
 
-workload_with-text : (g : Geometry) (first : List ℕ) (lines : List (List ℕ)) (entries : List Entry) → first ≡ volume_text g → lines ≡ map entry_text entries → first ∷ lines ≡ text_lines (workload_with g entries)
+workload_with-text : (g : Geometry) (first : List ℕ) (lines : List (List ℕ)) (entries : List Entry) → first ≡ volume_text g
+    → lines ≡ map entry_text entries → first ∷ lines ≡ text_lines (workload_with g entries)
 unfolding text_lines
 workload_with-text g first lines entries e f =
     let all : barriers entries + 0 + 1 ≡ barriers entries + 1 = omega arith in

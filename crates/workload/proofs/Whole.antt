@@ -41,7 +41,8 @@ is_plain-numbers [] h = refl
 is_plain-numbers (n ∷ ns) h =
     is_plain-append (32 ∷ decimal n) (flat_map (λ m. 32 ∷ decimal m) ns) (is_plain-word (decimal n) (decimal_graphic n h.0)) (is_plain-numbers ns h.1)
 
-is_plain-with_numbers : (word : List ℕ) (ns : List ℕ) → list_all is_ascii_graphic word ≡ true → Wide ns → is_plain (with_numbers word ns) ≡ true
+is_plain-with_numbers : (word : List ℕ) (ns : List ℕ) → list_all is_ascii_graphic word ≡ true → Wide ns
+    → is_plain (with_numbers word ns) ≡ true
 is_plain-with_numbers word ns e h = is_plain-append word (flat_map (λ n. 32 ∷ decimal n) ns) (is_plain-word word e) (is_plain-numbers ns h)
 
 is_plain-command : (g : Geometry) (line : Line) → g.hosts ≤ 16 → IsAllowed g line → is_plain (command_text line) ≡ true
@@ -62,7 +63,8 @@ ArePlain-alone : (n : ℕ) → ArePlain (barrier_lines n)
 ArePlain-alone zero = tt
 ArePlain-alone (suc n) = (refl, ArePlain-alone n)
 
-ArePlain-later : (g : Geometry) (phase : ℕ) (lines : List Line) (phases : ℕ) → g.hosts ≤ 16 → AllByRecursion (IsAllowed g) lines → ArePlain (later_lines phase lines phases)
+ArePlain-later : (g : Geometry) (phase : ℕ) (lines : List Line) (phases : ℕ) → g.hosts ≤ 16 → AllByRecursion (IsAllowed g) lines
+    → ArePlain (later_lines phase lines phases)
 unfolding later_lines
 ArePlain-later g phase [] phases hosts h = ArePlain-alone (phases - 1 - phase)
 ArePlain-later g phase (line ∷ lines) phases hosts h =

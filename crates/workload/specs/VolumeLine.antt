@@ -1,13 +1,13 @@
 -- The first line of a text: the geometry of its volume.
-use Rattle.std.specs.Prelude.{◌==◌, ◌&&◌, ◌||◌, ℕ, Bool, true, List, [], ◌∷◌, Result, Ok, Err, codes, length, slice_index, if◌then◌else◌}
+use Rattle.std.specs.Prelude.{◌==◌, ◌&&◌, ◌||◌, ℕ, Bool, true, List, [], ◌∷◌, Result, Ok, Err, codes, length, nat_le, slice_index, if◌then◌else◌}
 use Rattle.std.specs.Option.{ok_or}
 use Rattle.std.specs.Str.{bytes_eq}
 use Rattle.vol_layout.specs.declared.geometry.Geometry.{Geometry}
+use Rattle.vol_layout.specs.Ranges.{is_geometry}
 use Rattle.workload.specs.declared.cause.WorkloadNo.{WorkloadNo}
 use Rattle.workload.specs.declared.cause.WorkloadNo.TheVariants.{Shape, Volume, Count, Number, Range}
 use Rattle.workload.specs.Checks.{◌>>=◌, checked}
 use Rattle.workload.specs.Numerals.{numbers_of}
-use Rattle.workload.specs.Ranges.{is_between}
 use Rattle.workload.specs.Texts.{is_shaped, words_of}
 
 -- the geometry of six or seven numbers; without a seventh a file has one table block
@@ -23,16 +23,9 @@ geometry_of ns =
       tables = if length ns == 7 then slice_index ns 6 else 1;
     }
 
--- the numbers are in their ranges; a seventh is at least 2
+-- the numbers are those of a geometry; a seventh is at least 2
 abbrev pub are_in_range : List ℕ → Bool
-are_in_range ns =
-    is_between 1 16 (slice_index ns 0)
-    && is_between 1 64 (slice_index ns 1)
-    && is_between 1 64 (slice_index ns 2)
-    && is_between 1 16 (slice_index ns 3)
-    && is_between 1 64 (slice_index ns 4)
-    && is_between 1 16 (slice_index ns 5)
-    && (if length ns == 7 then is_between 2 16 (slice_index ns 6) else true)
+are_in_range ns = is_geometry (geometry_of ns) && (if length ns == 7 then nat_le 2 (slice_index ns 6) else true)
 
 -- the geometry of the words behind `volume`, or the first cause why they have none
 unfoldable pub volume_numbers : List (List ℕ) → Result Geometry WorkloadNo

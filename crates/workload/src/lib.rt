@@ -23,6 +23,3 @@ pub use cause::{ParseNo, WorkloadNo};
 pub use line::{Line, Lines, Workload};
 pub use parsing::parse;
 pub use printing::{print, write_numbers};
-
-#[cfg(test)]
-mod tests;

@@ -2,8 +2,7 @@
 use Rattle.std.proofs.Common.{Option, Some, None}
 use Rattle.std.specs.Prelude.{IfSome}
 use Rattle.image_view.specs.Images.{Image}
-use Rattle.shared_disk.specs.State.{Told}
-use Rattle.first_run.specs.Seats.{OnImages}
+use Rattle.shared_disk.specs.State.{OnImages, Told}
 
 -- a relation that each image has with itself
 pub told-none : (R : Image → Image → Type 0) (told : Option Told) → ((image : Image) → R image image) → OnImages R told told

@@ -96,7 +96,8 @@ unfolding spelled
 digest_back digest numbers long =
     ap (λ (xs : List ℕ). let d : Digest = record { 0 = xs } in d) (take_at digest.0 (flat_map (bytes_of 4) numbers) 20 long)
 
-number_back : (digest : Digest) (numbers : List ℕ) (k at n : ℕ) → length digest.0 ≡ 20 → slice_get numbers k ≡ Some n → n < 2 ^ 32 → at ≡ 20 + 4 * k → u32_at (spelled digest numbers) at ≡ n
+number_back : (digest : Digest) (numbers : List ℕ) (k at n : ℕ) → length digest.0 ≡ 20 → slice_get numbers k ≡ Some n → n < 2 ^ 32
+    → at ≡ 20 + 4 * k → u32_at (spelled digest numbers) at ≡ n
 unfolding spelled
 number_back digest numbers k at n long is small place =
     ap (λ (xs : List ℕ). u32_at xs at) (sym (append-nil (digest.0 ++ flat_map (bytes_of 4) numbers)))
@@ -115,7 +116,8 @@ unfolding arena_slots per_table
 small_slot g slot geometry h = omega (arith, geometry.parts)
 
 -- what is written for an entry in range reads as it
-pub log_entry_of-log_bytes : (g : Geometry) (hint : LogEntry) → IsGeometry g → IsLogEntry g hint → length (log_bytes hint) ≡ 32 → log_entry_of g (log_bytes hint) ≡ Some hint
+pub log_entry_of-log_bytes : (g : Geometry) (hint : LogEntry) → IsGeometry g → IsLogEntry g hint → length (log_bytes hint) ≡ 32
+    → log_entry_of g (log_bytes hint) ≡ Some hint
 unfolding log_entry_of
 log_entry_of-log_bytes g hint geometry range long =
     let numbers : List ℕ = hint.file ∷ hint.index ∷ 0 ∷ [] in
@@ -128,7 +130,8 @@ log_entry_of-log_bytes g hint geometry range long =
       below_both hint.file g.files hint.index (limit g) range.0 range.1,
     ) refl
 
-target_back : (g : Geometry) (digest : Digest) (to : HintTo) → IsGeometry g → IsTarget g to → length (spelled digest (target_numbers to)) ≡ 32
+target_back : (g : Geometry) (digest : Digest) (to : HintTo) → IsGeometry g → IsTarget g to
+    → length (spelled digest (target_numbers to)) ≡ 32
     → (let bytes = spelled digest (target_numbers to) in
     (digest_at bytes ≡ digest) × (target_of g (u32_at bytes 20) (u32_at bytes 24) (u32_at bytes 28) ≡ Some to))
 target_back g digest (Unique file index) geometry range long =
@@ -150,13 +153,15 @@ target_back g digest (Shared slot) geometry range long =
           ∙ passed (nat_lt slot (arena_slots g)) (Shared slot) (lt-ltb slot (arena_slots g) range),
     )
 
-pub index_entry_of-index_bytes : (g : Geometry) (hint : IndexEntry) → IsGeometry g → IsIndexEntry g hint → length (index_bytes hint) ≡ 32 → index_entry_of g (index_bytes hint) ≡ Some hint
+pub index_entry_of-index_bytes : (g : Geometry) (hint : IndexEntry) → IsGeometry g → IsIndexEntry g hint → length (index_bytes hint) ≡ 32
+    → index_entry_of g (index_bytes hint) ≡ Some hint
 unfolding index_entry_of
 index_entry_of-index_bytes g hint geometry range long =
     let back = target_back g hint.digest hint.to geometry range long in
     rw (back.0, back.1) refl
 
-pub request_of-request_bytes : (g : Geometry) (hint : Request) → IsGeometry g → IsRequest g hint → length (request_bytes hint) ≡ 32 → request_of g (request_bytes hint) ≡ Some hint
+pub request_of-request_bytes : (g : Geometry) (hint : Request) → IsGeometry g → IsRequest g hint → length (request_bytes hint) ≡ 32
+    → request_of g (request_bytes hint) ≡ Some hint
 unfolding request_of
 request_of-request_bytes g hint geometry range long =
     let numbers : List ℕ = hint.index ∷ hint.slot ∷ 0 ∷ [] in

@@ -31,24 +31,28 @@ length-cons_option None xs n h = omega arith
 length-cons_option (Some x) xs n h = suc-le-suc h
 
 -- the hint that is spelled
-spelled_hint : {T : Type 0} (bytes : T → List ℕ) (o : Option T) (entry : List ℕ) → option_map bytes o ≡ Some entry → (hint : T) × (o ≡ Some hint) × (bytes hint ≡ entry)
+spelled_hint : {T : Type 0} (bytes : T → List ℕ) (o : Option T) (entry : List ℕ) → option_map bytes o ≡ Some entry
+    → (hint : T) × (o ≡ Some hint) × (bytes hint ≡ entry)
 spelled_hint bytes None entry h = cc
 spelled_hint bytes (Some hint) entry h = (hint, refl, same_Some (bytes hint) entry h)
 
-pub length-filter_map : {T : Type 0} (read : List ℕ → Option T) (bytes : T → List ℕ) (es : List (List ℕ)) → All (IsSpelling read bytes) es → length (filter_map read es) ≡ length es
+pub length-filter_map : {T : Type 0} (read : List ℕ → Option T) (bytes : T → List ℕ) (es : List (List ℕ)) → All (IsSpelling read bytes) es
+    → length (filter_map read es) ≡ length es
 length-filter_map read bytes [] all = refl
 length-filter_map read bytes (e ∷ es) all =
     let first = spelled_hint bytes (read e) e (All-head (IsSpelling read bytes) e es all) in
     rw (first.1) (ap suc (length-filter_map read bytes es (All-tail (IsSpelling read bytes) e es all)))
 
-pub map-filter_map : {T : Type 0} (read : List ℕ → Option T) (bytes : T → List ℕ) (es : List (List ℕ)) → All (IsSpelling read bytes) es → map bytes (filter_map read es) ≡ es
+pub map-filter_map : {T : Type 0} (read : List ℕ → Option T) (bytes : T → List ℕ) (es : List (List ℕ)) → All (IsSpelling read bytes) es
+    → map bytes (filter_map read es) ≡ es
 map-filter_map read bytes [] all = refl
 map-filter_map read bytes (e ∷ es) all =
     let first = spelled_hint bytes (read e) e (All-head (IsSpelling read bytes) e es all) in
     let rest = map-filter_map read bytes es (All-tail (IsSpelling read bytes) e es all) in
     rw (first.1, first.2, rest) refl
 
-pub slice_get-filter_map : {T : Type 0} (read : List ℕ → Option T) (bytes : T → List ℕ) (es : List (List ℕ)) (k : ℕ) (e : List ℕ) → All (IsSpelling read bytes) es → slice_get es k ≡ Some e
+pub slice_get-filter_map : {T : Type 0} (read : List ℕ → Option T) (bytes : T → List ℕ) (es : List (List ℕ)) (k : ℕ) (e : List ℕ)
+    → All (IsSpelling read bytes) es → slice_get es k ≡ Some e
     → slice_get (filter_map read es) k ≡ read e
 slice_get-filter_map read bytes [] k e all h = cc
 slice_get-filter_map read bytes (x ∷ es) zero e all h =
@@ -60,7 +64,8 @@ slice_get-filter_map read bytes (x ∷ es) (suc k) e all h =
     rw (first.1) (slice_get-filter_map read bytes es k e (All-tail (IsSpelling read bytes) x es all) h)
 
 -- no piece is left out
-pub spelled_is_read : {T : Type 0} (read : List ℕ → Option T) (bytes : T → List ℕ) (es : List (List ℕ)) (k : ℕ) (e : List ℕ) → All (IsSpelling read bytes) es → slice_get es k ≡ Some e → read e ≡ None → ⊥
+pub spelled_is_read : {T : Type 0} (read : List ℕ → Option T) (bytes : T → List ℕ) (es : List (List ℕ)) (k : ℕ) (e : List ℕ)
+    → All (IsSpelling read bytes) es → slice_get es k ≡ Some e → read e ≡ None → ⊥
 spelled_is_read read bytes es k e all h none =
     let here : IsSpelling read bytes e = All-slice_get (IsSpelling read bytes) es k e all h in
     let found = spelled_hint bytes (read e) e here in
@@ -87,7 +92,8 @@ All-cons_option : {T : Type 0} (P : T → Type 0) (o : Option T) (xs : List T) �
 All-cons_option P None xs h all = all
 All-cons_option P (Some x) xs h all = All-cons P x xs h all
 
-pub All-filter_map : {T : Type 0} (read : List ℕ → Option T) (P : T → Type 0) → ((e : List ℕ) → IfSome (read e) P) → (es : List (List ℕ)) → All P (filter_map read es)
+pub All-filter_map : {T : Type 0} (read : List ℕ → Option T) (P : T → Type 0) → ((e : List ℕ) → IfSome (read e) P) → (es : List (List ℕ))
+    → All P (filter_map read es)
 All-filter_map read P h [] = All-nil P
 All-filter_map read P h (e ∷ es) = All-cons_option P (read e) (filter_map read es) (h e) (All-filter_map read P h es)
 
@@ -98,14 +104,16 @@ is_packed magic bytes h =
     ((bytes_eq-Decides (take 8 bytes) magic).0 parts.0, leb-true (u32_at bytes 8) (room_of 32) parts.1)
 
 -- a block of hints, and one that is none
-pub hints_in-packed : {T : Type 0} (magic bytes : List ℕ) (read : List ℕ → Option T) → IsPacked 32 magic bytes → hints_in magic read bytes ≡ filter_map read (packing_of 32 bytes).entries
+pub hints_in-packed : {T : Type 0} (magic bytes : List ℕ) (read : List ℕ → Option T) → IsPacked 32 magic bytes
+    → hints_in magic read bytes ≡ filter_map read (packing_of 32 bytes).entries
 unfolding hints_in
 hints_in-packed magic bytes read h =
     let same : bytes_eq (take 8 bytes) magic ≡ true = (bytes_eq-Decides (take 8 bytes) magic).1 h.0 in
     let few : nat_le (u32_at bytes 8) (room_of 32) ≡ true = le-leb (u32_at bytes 8) (room_of 32) h.1 in
     cond-true (is_hint_block magic bytes) (filter_map read (packing_of 32 bytes).entries) [] (and_from _ _ same few)
 
-pub hints_in-other : {T : Type 0} (magic bytes : List ℕ) (read : List ℕ → Option T) → (IsPacked 32 magic bytes → ⊥) → hints_in magic read bytes ≡ []
+pub hints_in-other : {T : Type 0} (magic bytes : List ℕ) (read : List ℕ → Option T) → (IsPacked 32 magic bytes → ⊥)
+    → hints_in magic read bytes ≡ []
 unfolding hints_in
 hints_in-other magic bytes read h =
     cond-false (is_hint_block magic bytes) (filter_map read (packing_of 32 bytes).entries) [] (false_from_ne_true (is_hint_block magic bytes) (λ e. h (is_packed magic bytes e)))
@@ -121,16 +129,19 @@ without-more : {T : Type 0} (digest_bytes : T → List ℕ) (digest : List ℕ) 
 without-more digest_bytes digest xs k x h =
     ap (without digest_bytes digest) (take_more_get xs k x h) ∙ filter-append (λ y. not (bytes_eq (digest_bytes y) digest)) (take k xs) (x ∷ [])
 
-pub without-other : {T : Type 0} (digest_bytes : T → List ℕ) (digest : List ℕ) (xs : List T) (k : ℕ) (x : T) → slice_get xs k ≡ Some x → bytes_eq (digest_bytes x) digest ≡ false
+pub without-other : {T : Type 0} (digest_bytes : T → List ℕ) (digest : List ℕ) (xs : List T) (k : ℕ) (x : T) → slice_get xs k ≡ Some x
+    → bytes_eq (digest_bytes x) digest ≡ false
     → without digest_bytes digest (take (k + 1) xs) ≡ without digest_bytes digest (take k xs) ++ x ∷ []
 without-other digest_bytes digest xs k x h other = without-more digest_bytes digest xs k x h ∙ rw other refl
 
-pub without-same : {T : Type 0} (digest_bytes : T → List ℕ) (digest : List ℕ) (xs : List T) (k : ℕ) (x : T) → slice_get xs k ≡ Some x → bytes_eq (digest_bytes x) digest ≡ true
+pub without-same : {T : Type 0} (digest_bytes : T → List ℕ) (digest : List ℕ) (xs : List T) (k : ℕ) (x : T) → slice_get xs k ≡ Some x
+    → bytes_eq (digest_bytes x) digest ≡ true
     → without digest_bytes digest (take (k + 1) xs) ≡ without digest_bytes digest (take k xs)
 without-same digest_bytes digest xs k x h same =
     without-more digest_bytes digest xs k x h ∙ rw same (append-nil (without digest_bytes digest (take k xs)))
 
-pub length-without : {T : Type 0} (digest_bytes : T → List ℕ) (digest : List ℕ) (xs : List T) → length (without digest_bytes digest xs) ≤ length xs
+pub length-without : {T : Type 0} (digest_bytes : T → List ℕ) (digest : List ℕ) (xs : List T)
+    → length (without digest_bytes digest xs) ≤ length xs
 length-without digest_bytes digest xs =
     let both = length-filter_both (λ y. not (bytes_eq (digest_bytes y) digest)) (λ y. not (not (bytes_eq (digest_bytes y) digest))) (λ _. refl) xs in
     omega arith

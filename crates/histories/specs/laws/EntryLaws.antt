@@ -13,7 +13,8 @@ use Rattle.histories.specs.laws.PushLaws.{all_at, get_pushed, pair_pushed}
 
 -- an entry of a later line that has no answer yet
 pub fits-entry : (lines : List Line) (answers : List (Option Answer)) (history : List Placed) (entry : Placed) (line : Line)
-    → ArePhased lines → IsLine lines entry.line line → IsFileLine line → length answers ≤ entry.line → All (λ (e : Placed). e.line < entry.line) history
+    → ArePhased lines → IsLine lines entry.line line → IsFileLine line → length answers ≤ entry.line
+    → All (λ (e : Placed). e.line < entry.line) history
     → Fits lines answers history → Fits lines answers (history ++ entry ∷ [])
 fits-entry lines answers history entry line phased is file none below fits =
     let before : (k : ℕ) (a : Placed) → slice_get history k ≡ Some a → a.line < entry.line = λ k a at. all_at (λ (e : Placed). e.line < entry.line) history k a below at in

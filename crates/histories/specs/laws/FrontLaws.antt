@@ -11,44 +11,46 @@ use Rattle.image_view.specs.Files.{HasFiles}
 use Rattle.shared_disk.specs.State.{Told}
 use Rattle.shared_disk.specs.Prefixes.{EachImage, After}
 use Rattle.shared_disk.specs.laws.PrefixLaws.{Prefixes-begun, Prefixes-joined, Prefixes-joined_images, Prefixes-weaker, Prefixes-ends}
-use Rattle.histories.specs.Fronts.{AreFronts, IsImageOf}
+use Rattle.histories.specs.Fronts.{AreFrontsUpTo, IsImageUpTo}
 
 -- an image of a history that begins where another ends is one of the two together
-IsImageOf-behind : (calls : List (Option PlainCall)) (start : Plain) (counter : ℕ) (before more : List Placed) (image : Image)
-    → IsImageOf calls (state_after calls start before) counter image more → IsImageOf calls start counter image (before ++ more)
-IsImageOf-behind calls start counter before more image h = record {
+IsImageUpTo-behind : (counter : ℕ) (calls : List (Option PlainCall)) (start : Plain) (before more : List Placed) (image : Image)
+    → IsImageUpTo counter calls (state_after calls start before) image more → IsImageUpTo counter calls start image (before ++ more)
+IsImageUpTo-behind counter calls start before more image h = record {
   volume = h.volume;
   files = subst (λ (p : Plain). HasFiles image p) (sym (state_after-append calls start before more)) h.files;
 }
 
 -- a device that stands at an image of the history is at its end
-pub AreFronts-begun : (calls : List (Option PlainCall)) (start : Plain) (counter : ℕ) (told : Option Told) (history : List Placed)
-    → IfSome told (λ t. IsImageOf calls start counter t.image history) → AreFronts calls start counter told told history
-unfolding AreFronts
-AreFronts-begun calls start counter told history h = Prefixes-begun (IsImageOf calls start counter) told history h
+pub AreFrontsUpTo-begun : (counter : ℕ) (calls : List (Option PlainCall)) (start : Plain) (told : Option Told) (history : List Placed)
+    → IfSome told (λ t. IsImageUpTo counter calls start t.image history) → AreFrontsUpTo counter calls start told told history
+unfolding AreFrontsUpTo
+AreFrontsUpTo-begun counter calls start told history h = Prefixes-begun (IsImageUpTo counter calls start) told history h
 
 -- two stretches join: the second one's plain files are those that the first one's history leaves
-pub AreFronts-joined : (calls : List (Option PlainCall)) (start : Plain) (counter : ℕ) (first middle last : Option Told) (before more : List Placed)
-    → AreFronts calls start counter first middle before
-    → AreFronts calls (state_after calls start before) counter middle last more
-    → AreFronts calls start counter first last (before ++ more)
-unfolding AreFronts
-AreFronts-joined calls start counter first middle last before more a b =
-    Prefixes-joined (IsImageOf calls start counter) first middle last before more a
-    (Prefixes-weaker (IsImageOf calls (state_after calls start before) counter) (After (IsImageOf calls start counter) before) middle last more
-    (λ image history h. IsImageOf-behind calls start counter before history image h) b)
+pub AreFrontsUpTo-joined : (counter : ℕ) (calls : List (Option PlainCall)) (start : Plain)
+    → (first middle last : Option Told) (before more : List Placed)
+    → AreFrontsUpTo counter calls start first middle before
+    → AreFrontsUpTo counter calls (state_after calls start before) middle last more
+    → AreFrontsUpTo counter calls start first last (before ++ more)
+unfolding AreFrontsUpTo
+AreFrontsUpTo-joined counter calls start first middle last before more a b =
+    Prefixes-joined (IsImageUpTo counter calls start) first middle last before more a
+    (Prefixes-weaker (IsImageUpTo counter calls (state_after calls start before)) (After (IsImageUpTo counter calls start) before) middle last more
+    (λ image history h. IsImageUpTo-behind counter calls start before history image h) b)
 
 -- a stretch in which the history got no entry keeps its front
-pub AreFronts-kept : (calls : List (Option PlainCall)) (start : Plain) (counter : ℕ) (first middle last : Option Told) (history : List Placed)
-    → AreFronts calls start counter first middle history
-    → EachImage (λ image. IsImageOf calls start counter image history) middle last
-    → AreFronts calls start counter first last history
-unfolding AreFronts
-AreFronts-kept calls start counter first middle last history a b =
-    Prefixes-joined_images (IsImageOf calls start counter) first middle last history a b
+pub AreFrontsUpTo-kept : (counter : ℕ) (calls : List (Option PlainCall)) (start : Plain)
+    → (first middle last : Option Told) (history : List Placed)
+    → AreFrontsUpTo counter calls start first middle history
+    → EachImage (λ image. IsImageUpTo counter calls start image history) middle last
+    → AreFrontsUpTo counter calls start first last history
+unfolding AreFrontsUpTo
+AreFrontsUpTo-kept counter calls start first middle last history a b =
+    Prefixes-joined_images (IsImageUpTo counter calls start) first middle last history a b
 
 -- the last image is that of the whole history
-pub AreFronts-ends : (calls : List (Option PlainCall)) (start : Plain) (counter : ℕ) (first last : Option Told) (history : List Placed)
-    → AreFronts calls start counter first last history → IfSome last (λ t. IsImageOf calls start counter t.image history)
-unfolding AreFronts
-AreFronts-ends calls start counter first last history a = Prefixes-ends (IsImageOf calls start counter) first last history a
+pub AreFrontsUpTo-ends : (counter : ℕ) (calls : List (Option PlainCall)) (start : Plain) (first last : Option Told) (history : List Placed)
+    → AreFrontsUpTo counter calls start first last history → IfSome last (λ t. IsImageUpTo counter calls start t.image history)
+unfolding AreFrontsUpTo
+AreFrontsUpTo-ends counter calls start first last history a = Prefixes-ends (IsImageUpTo counter calls start) first last history a

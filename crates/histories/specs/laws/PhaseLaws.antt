@@ -28,7 +28,8 @@ later_phase at phase (Order host command ∷ entries) zero l is =
     omega (arith, same)
 later_phase at phase (Order host command ∷ entries) (suc k) l is = later_phase (at + 1) phase entries k l is
 
-phased_behind : (at phase : ℕ) (entries : List Entry) (j k : ℕ) (l m : Line) → j < k → IsLine (numbered at phase entries) j l → IsLine (numbered at phase entries) k m → l.phase ≤ m.phase
+phased_behind : (at phase : ℕ) (entries : List Entry) (j k : ℕ) (l m : Line) → j < k → IsLine (numbered at phase entries) j l
+    → IsLine (numbered at phase entries) k m → l.phase ≤ m.phase
 unfolding numbered
 phased_behind at phase [] j k l m lt at_j at_k = absurd cc
 phased_behind at phase (Barrier ∷ entries) j k l m lt at_j at_k = phased_behind (at + 1) (phase + 1) entries j k l m lt at_j at_k
@@ -41,7 +42,8 @@ phased_behind at phase (Order host command ∷ entries) zero (suc k) l m lt at_j
     omega (arith, same, later)
 phased_behind at phase (Order host command ∷ entries) (suc j) (suc k) l m lt at_j at_k = phased_behind (at + 1) phase entries j k l m (omega (arith, lt)) at_j at_k
 
-of_both : {A : Type 0} (r : Result A Refusal) (rest : A → Result Workload Refusal) (w : Workload) → ((value : A) → rest value ≡ Ok w → ArePhased w.lines) → (r >>= rest) ≡ Ok w → ArePhased w.lines
+of_both : {A : Type 0} (r : Result A Refusal) (rest : A → Result Workload Refusal) (w : Workload)
+    → ((value : A) → rest value ≡ Ok w → ArePhased w.lines) → (r >>= rest) ≡ Ok w → ArePhased w.lines
 of_both (Ok value) rest w each is = each value is
 of_both (Err refusal) rest w each is = absurd cc
 
@@ -58,7 +60,8 @@ of_lines (first ∷ lines) w is =
     behind)
     is
 
-of_text : (short : Bool) (lines : List (List ℕ)) (w : Workload) → (if short then workload_of_lines lines else Err (0, Long)) ≡ Ok w → ArePhased w.lines
+of_text : (short : Bool) (lines : List (List ℕ)) (w : Workload) → (if short then workload_of_lines lines else Err (0, Long)) ≡ Ok w
+    → ArePhased w.lines
 of_text true lines w is = of_lines lines w is
 of_text false lines w is = absurd cc
 

@@ -4,7 +4,8 @@ use Rattle.std.specs.Prelude.{All, slice_get}
 use Rattle.std.proofs.lemmas.Option.{get_or_from_slice_get, slice_get_within}
 
 -- it is an element of the list, or the new one behind it
-pub get_pushed : {X : Type 0} (xs : List X) (x y : X) (k : ℕ) → slice_get (xs ++ x ∷ []) k ≡ Some y → (slice_get xs k ≡ Some y) ⊎ ((k ≡ length xs) × (x ≡ y))
+pub get_pushed : {X : Type 0} (xs : List X) (x y : X) (k : ℕ) → slice_get (xs ++ x ∷ []) k ≡ Some y
+    → (slice_get xs k ≡ Some y) ⊎ ((k ≡ length xs) × (x ≡ y))
 get_pushed [] x y zero is = inr (refl, cc)
 get_pushed [] x y (suc k) is = absurd cc
 get_pushed (z ∷ xs) x y zero is = inl is
@@ -22,7 +23,8 @@ get_front xs x y k lt is =
     ]
 
 -- of two places the first one's element is of the list
-pub pair_pushed : {X : Type 0} (xs : List X) (x a b : X) (j k : ℕ) → j < k → slice_get (xs ++ x ∷ []) j ≡ Some a → slice_get (xs ++ x ∷ []) k ≡ Some b
+pub pair_pushed : {X : Type 0} (xs : List X) (x a b : X) (j k : ℕ) → j < k → slice_get (xs ++ x ∷ []) j ≡ Some a
+    → slice_get (xs ++ x ∷ []) k ≡ Some b
     → (slice_get xs j ≡ Some a) × ((slice_get xs k ≡ Some b) ⊎ (x ≡ b))
 pair_pushed xs x a b j k lt at_j at_k =
     elim (get_pushed xs x b k at_k) [

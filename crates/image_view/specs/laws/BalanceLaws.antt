@@ -36,13 +36,13 @@ count_names_none (Head f) n d is = absurd is
 count_names_none (Pointer f i) n d is = absurd is
 count_names_none (Slot s) n d is = absurd is
 
-lost_none : (numbers : Field → ℕ) (es : List Edit) (d : ℕ) → AreCounts es → lost numbers es d ≡ 0
-lost_none numbers [] d are = refl
-lost_none numbers (e ∷ es) d are = rw (sum_by-cons (λ e. share_of e.field (numbers e.field) d) e es, count_names_none e.field (numbers e.field) d are.0, lost_none numbers es d are.1) refl
+pub lost-counts : (numbers : Field → ℕ) (es : List Edit) (d : ℕ) → AreCounts es → lost numbers es d ≡ 0
+lost-counts numbers [] d are = refl
+lost-counts numbers (e ∷ es) d are = rw (sum_by-cons (λ e. share_of e.field (numbers e.field) d) e es, count_names_none e.field (numbers e.field) d are.0, lost-counts numbers es d are.1) refl
 
-gained_none : (es : List Edit) (d : ℕ) → AreCounts es → gained es d ≡ 0
-gained_none [] d are = refl
-gained_none (e ∷ es) d are = rw (sum_by-cons (λ e. share_of e.field e.number d) e es, count_names_none e.field e.number d are.0, gained_none es d are.1) refl
+pub gained-counts : (es : List Edit) (d : ℕ) → AreCounts es → gained es d ≡ 0
+gained-counts [] d are = refl
+gained-counts (e ∷ es) d are = rw (sum_by-cons (λ e. share_of e.field e.number d) e es, count_names_none e.field e.number d are.0, gained-counts es d are.1) refl
 
 -- pointers and slots first, and then counts that follow them, balance
 pub balances-parts : (g : Geometry) (numbers : Field → ℕ) (references counts : List Edit) → HaveNoCount references → AreCounts counts
@@ -53,8 +53,8 @@ balances-parts g numbers references counts none are follow d has =
     edited-append references counts (Count d) (numbers (Count d)) ∙ edited_untouched references (Count d) (edited counts (Count d) (numbers (Count d))) (none d) in
     let l = sum_by-append (λ e. share_of e.field (numbers e.field) d) references counts in
     let s = sum_by-append (λ e. share_of e.field e.number d) references counts in
-    let l0 = lost_none numbers counts d are in
-    let s0 = gained_none counts d are in
+    let l0 = lost-counts numbers counts d are in
+    let s0 = gained-counts counts d are in
     let is = follow d has in
     omega arith
 
@@ -71,12 +71,14 @@ unfolding share
 share_none n e is = ap (λ o. option_map_or (λ d. if d == e then 1 else 0) o 0) is
 
 -- what edits of counts leave, the first one first
-pub edited-count : (d c : ℕ) (es : List Edit) (e m : ℕ) → edited (edit (Count d) c ∷ es) (Count e) m ≡ (if d == e then c else edited es (Count e) m)
+pub edited-count : (d c : ℕ) (es : List Edit) (e m : ℕ)
+    → edited (edit (Count d) c ∷ es) (Count e) m ≡ (if d == e then c else edited es (Count e) m)
 unfolding same_field
 edited-count d c es e m = ap (λ b. if b then c else edited es (Count e) m) (and-true (d == e))
 
 -- one count that rises by one, one that falls by one, and both in either order
-raise : (numbers : Field → ℕ) (d e : ℕ) → edited (edit (Count d) (numbers (Count d) + 1) ∷ []) (Count e) (numbers (Count e)) ≡ numbers (Count e) + one d e
+raise : (numbers : Field → ℕ) (d e : ℕ)
+    → edited (edit (Count d) (numbers (Count d) + 1) ∷ []) (Count e) (numbers (Count e)) ≡ numbers (Count e) + one d e
 raise numbers d e =
     rw (edited-count d (numbers (Count d) + 1) [] e (numbers (Count e)))
     (elim (cases_eq d e) [
@@ -84,7 +86,8 @@ raise numbers d e =
       | inr other ↦ rw (ne_eqb d e other) (omega arith)
     ])
 
-lower : (numbers : Field → ℕ) (d e : ℕ) → 1 ≤ numbers (Count d) → edited (edit (Count d) (numbers (Count d) - 1) ∷ []) (Count e) (numbers (Count e)) + one d e ≡ numbers (Count e)
+lower : (numbers : Field → ℕ) (d e : ℕ) → 1 ≤ numbers (Count d)
+    → edited (edit (Count d) (numbers (Count d) - 1) ∷ []) (Count e) (numbers (Count e)) + one d e ≡ numbers (Count e)
 lower numbers d e some =
     rw (edited-count d (numbers (Count d) - 1) [] e (numbers (Count e)))
     (elim (cases_eq d e) [
@@ -98,7 +101,8 @@ Moves numbers from to counts =
     AreCounts counts
     × ((e : ℕ) → edited counts (Count e) (numbers (Count e)) + one from e ≡ numbers (Count e) + one to e)
 
-pub lower_raise : (numbers : Field → ℕ) (from to : ℕ) → from ≢ to → 1 ≤ numbers (Count from) → Moves numbers from to (edit (Count from) (numbers (Count from) - 1) ∷ edit (Count to) (numbers (Count to) + 1) ∷ [])
+pub lower_raise : (numbers : Field → ℕ) (from to : ℕ) → from ≢ to → 1 ≤ numbers (Count from)
+    → Moves numbers from to (edit (Count from) (numbers (Count from) - 1) ∷ edit (Count to) (numbers (Count to) + 1) ∷ [])
 lower_raise numbers from to ne some = (
   (tt, (tt, tt)),
   λ e.
@@ -109,7 +113,8 @@ lower_raise numbers from to ne some = (
       ]),
 )
 
-pub raise_lower : (numbers : Field → ℕ) (from to : ℕ) → from ≢ to → 1 ≤ numbers (Count from) → Moves numbers from to (edit (Count to) (numbers (Count to) + 1) ∷ edit (Count from) (numbers (Count from) - 1) ∷ [])
+pub raise_lower : (numbers : Field → ℕ) (from to : ℕ) → from ≢ to → 1 ≤ numbers (Count from)
+    → Moves numbers from to (edit (Count to) (numbers (Count to) + 1) ∷ edit (Count from) (numbers (Count from) - 1) ∷ [])
 raise_lower numbers from to ne some = (
   (tt, (tt, tt)),
   λ e.
@@ -136,14 +141,16 @@ balances-fill g numbers f i n d hole to =
     (λ e has. rw (share_none (numbers (Pointer f i)) e hole, share_named n d e to, raise numbers d e) (omega arith))
 
 -- a punch: the pointer comes to name nothing, and the count of its data number falls
-pub balances-drop : (g : Geometry) (numbers : Field → ℕ) (f i n d : ℕ) → named (numbers (Pointer f i)) ≡ Some d → named n ≡ None → 1 ≤ numbers (Count d)
+pub balances-drop : (g : Geometry) (numbers : Field → ℕ) (f i n d : ℕ) → named (numbers (Pointer f i)) ≡ Some d → named n ≡ None
+    → 1 ≤ numbers (Count d)
     → Balances g numbers (edit (Pointer f i) n ∷ edit (Count d) (numbers (Count d) - 1) ∷ [])
 balances-drop g numbers f i n d was none some =
     balances-parts g numbers (edit (Pointer f i) n ∷ []) (edit (Count d) (numbers (Count d) - 1) ∷ []) (one_pointer f i n) (tt, tt)
     (λ e has. let less = lower numbers d e some in rw (share_named (numbers (Pointer f i)) d e was, share_none n e none) (omega (arith, less)))
 
 -- a write to a shared block, and a link to a slot: the pointer comes to name another data number
-pub balances-move : (g : Geometry) (numbers : Field → ℕ) (f i n from to : ℕ) (counts : List Edit) → named (numbers (Pointer f i)) ≡ Some from → named n ≡ Some to → Moves numbers from to counts
+pub balances-move : (g : Geometry) (numbers : Field → ℕ) (f i n from to : ℕ) (counts : List Edit)
+    → named (numbers (Pointer f i)) ≡ Some from → named n ≡ Some to → Moves numbers from to counts
     → Balances g numbers (edit (Pointer f i) n ∷ counts)
 balances-move g numbers f i n from to counts was is moves =
     balances-parts g numbers (edit (Pointer f i) n ∷ []) counts (one_pointer f i n) moves.0
@@ -151,7 +158,8 @@ balances-move g numbers f i n from to counts was is moves =
 
 -- a link to a file's block: the pointer comes to name the source's data number, and the source gets the mark
 pub balances-link : (g : Geometry) (numbers : Field → ℕ) (f i n f' i' n' from to : ℕ) (counts : List Edit)
-    → named (numbers (Pointer f i)) ≡ Some from → named n ≡ Some to → named (numbers (Pointer f' i')) ≡ Some to → named n' ≡ Some to → Moves numbers from to counts
+    → named (numbers (Pointer f i)) ≡ Some from → named n ≡ Some to → named (numbers (Pointer f' i')) ≡ Some to → named n' ≡ Some to
+    → Moves numbers from to counts
     → Balances g numbers (edit (Pointer f i) n ∷ edit (Pointer f' i') n' ∷ counts)
 balances-link g numbers f i n f' i' n' from to counts was is was' is' moves =
     balances-parts g numbers (edit (Pointer f i) n ∷ edit (Pointer f' i') n' ∷ []) counts
@@ -159,7 +167,8 @@ balances-link g numbers f i n f' i' n' from to counts was is was' is' moves =
     (λ e has. let m = moves.1 e in rw (share_named (numbers (Pointer f i)) from e was, share_named n to e is, share_named (numbers (Pointer f' i')) to e was', share_named n' to e is') (omega (arith, m)))
 
 -- a promotion: an empty slot comes to name a pointer's data number, the pointer gets the mark, and the count rises
-pub balances-promote : (g : Geometry) (numbers : Field → ℕ) (s n f i n' d : ℕ) → named (numbers (Slot s)) ≡ None → named n ≡ Some d → named (numbers (Pointer f i)) ≡ Some d → named n' ≡ Some d
+pub balances-promote : (g : Geometry) (numbers : Field → ℕ) (s n f i n' d : ℕ) → named (numbers (Slot s)) ≡ None → named n ≡ Some d
+    → named (numbers (Pointer f i)) ≡ Some d → named n' ≡ Some d
     → Balances g numbers (edit (Slot s) n ∷ edit (Pointer f i) n' ∷ edit (Count d) (numbers (Count d) + 1) ∷ [])
 balances-promote g numbers s n f i n' d none is was is' =
     balances-parts g numbers (edit (Slot s) n ∷ edit (Pointer f i) n' ∷ []) (edit (Count d) (numbers (Count d) + 1) ∷ [])
@@ -177,12 +186,14 @@ gained-emptied (x ∷ xs) d = rw (sum_by-cons (λ e. share_of e.field e.number d
     empty (Pointer f i) d = rw (share_none 0 d refl) refl
     empty (Slot s) d = rw (share_none 0 d refl) refl
 
-lost-emptied : (numbers : Field → ℕ) (xs : List Field) (d : ℕ) → lost numbers (map (λ x. edit x 0) xs) d ≡ sum_by (λ x. share_of x (numbers x) d) xs
+lost-emptied : (numbers : Field → ℕ) (xs : List Field) (d : ℕ)
+    → lost numbers (map (λ x. edit x 0) xs) d ≡ sum_by (λ x. share_of x (numbers x) d) xs
 lost-emptied numbers [] d = refl
 lost-emptied numbers (x ∷ xs) d = rw (sum_by-cons (λ e. share_of e.field (numbers e.field) d) (edit x 0) (map (λ x. edit x 0) xs), sum_by-cons (λ x. share_of x (numbers x) d) x xs, lost-emptied numbers xs d) refl
 
 -- a purge: pointers are emptied, and each count falls by how often they named its data number
-pub balances-purge : (g : Geometry) (numbers : Field → ℕ) (xs : List Field) (counts : List Edit) → HaveNoCount (map (λ x. edit x 0) xs) → AreCounts counts
+pub balances-purge : (g : Geometry) (numbers : Field → ℕ) (xs : List Field) (counts : List Edit) → HaveNoCount (map (λ x. edit x 0) xs)
+    → AreCounts counts
     → ((d : ℕ) → HasField g (Count d) → edited counts (Count d) (numbers (Count d)) + sum_by (λ x. share_of x (numbers x) d) xs ≡ numbers (Count d))
     → Balances g numbers (map (λ x. edit x 0) xs ++ counts)
 balances-purge g numbers xs counts none are follow =
@@ -201,19 +212,19 @@ Collects numbers [] = Unit {0}
 Collects numbers (p ∷ ps) =
     (named (numbers (Slot p.0)) ≡ Some p.1) × (numbers (Count p.1) ≡ 1) × (touches (freed_counts ps) (Count p.1) ≡ false) × Collects numbers ps
 
-slots_no_count : (ps : List (ℕ × ℕ)) → HaveNoCount (emptied_slots ps)
-slots_no_count [] d = refl
-slots_no_count (p ∷ ps) d = rw (other_field-is (Slot p.0) (Count d) (λ e. cc)) (slots_no_count ps d)
+pub slots-no-count : (ps : List (ℕ × ℕ)) → HaveNoCount (emptied_slots ps)
+slots-no-count [] d = refl
+slots-no-count (p ∷ ps) d = rw (other_field-is (Slot p.0) (Count d) (λ e. cc)) (slots-no-count ps d)
 
-counts_freed : (ps : List (ℕ × ℕ)) → AreCounts (freed_counts ps)
-counts_freed [] = tt
-counts_freed (p ∷ ps) = (tt, counts_freed ps)
+pub counts-freed : (ps : List (ℕ × ℕ)) → AreCounts (freed_counts ps)
+counts-freed [] = tt
+counts-freed (p ∷ ps) = (tt, counts-freed ps)
 
-collect_follows : (numbers : Field → ℕ) (ps : List (ℕ × ℕ)) (e : ℕ) → Collects numbers ps
+pub collect-follows : (numbers : Field → ℕ) (ps : List (ℕ × ℕ)) (e : ℕ) → Collects numbers ps
     → edited (freed_counts ps) (Count e) (numbers (Count e)) + lost numbers (emptied_slots ps) e ≡ numbers (Count e) + gained (emptied_slots ps) e
-collect_follows numbers [] e all = refl
-collect_follows numbers (p ∷ ps) e all =
-    let more = collect_follows numbers ps e all.3 in
+collect-follows numbers [] e all = refl
+collect-follows numbers (p ∷ ps) e all =
+    let more = collect-follows numbers ps e all.3 in
     rw (
       edited-count p.1 0 (freed_counts ps) e (numbers (Count e)),
       sum_by-cons (λ e'. share_of e'.field (numbers e'.field) e) (edit (Slot p.0) 0) (emptied_slots ps),
@@ -230,5 +241,6 @@ collect_follows numbers (p ∷ ps) e all =
     ])
 
 -- a collection: slots whose data numbers have the count 1 are emptied, and these counts fall to 0
-pub balances-collect : (g : Geometry) (numbers : Field → ℕ) (ps : List (ℕ × ℕ)) → Collects numbers ps → Balances g numbers (emptied_slots ps ++ freed_counts ps)
-balances-collect g numbers ps all = balances-parts g numbers (emptied_slots ps) (freed_counts ps) (slots_no_count ps) (counts_freed ps) (λ e has. collect_follows numbers ps e all)
+pub balances-collect : (g : Geometry) (numbers : Field → ℕ) (ps : List (ℕ × ℕ)) → Collects numbers ps
+    → Balances g numbers (emptied_slots ps ++ freed_counts ps)
+balances-collect g numbers ps all = balances-parts g numbers (emptied_slots ps) (freed_counts ps) (slots-no-count ps) (counts-freed ps) (λ e has. collect-follows numbers ps e all)

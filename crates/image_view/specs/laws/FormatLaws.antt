@@ -1,11 +1,9 @@
 -- A formatted image is valid, and has no file and no mapping.
-use Rattle.std.proofs.Common.{◌≡◌, ◌<◌, ◌≤◌, ◌+◌, ◌-◌, ◌*◌, ◌/◌, ℕ, zero, suc, true, false, List, [], ◌∷◌, ◌++◌, length, map, replicate, sum_by, None, refl, sym, ap, ◌∙◌, arith}
+use Rattle.std.proofs.Common.{◌≡◌, ◌<◌, ◌≤◌, ◌+◌, ◌-◌, ◌*◌, ◌/◌, ℕ, zero, suc, true, false, List, [], ◌∷◌, ◌++◌, length, map, replicate, sum_by, None, refl, sym, ap, ◌∙◌, arith, get_or, length-append}
 use Rattle.std.specs.Prelude.{All, codes, nat_lt}
-use Rattle.std.specs.List.{flat_map, range_with_len}
+use Rattle.std.specs.List.{flat_map, range_with_len, list_all}
 use Rattle.std.proofs.lemmas.List.{length-replicate}
 use Rattle.std.proofs.lemmas.List.Elements.{All-append, All-cons, All-nil, All-replicate}
-use Rattle.std.specs.List.{list_all}
-use Rattle.std.proofs.Common.{get_or, length-append}
 use Rattle.std.proofs.lemmas.Bool.{ltb-true}
 use Rattle.std.proofs.lemmas.List.Sums.{AllPass-from_list_all, sum_by-cons}
 use Rattle.vol_base.specs.Bytes.{bytes_of, number_at, u32_at, u64_at, zeros}
@@ -29,9 +27,9 @@ use Rattle.slot_lock_blocks.specs.declared.lock.LockWord.TheVariants as locks
 use Rattle.slot_lock_blocks.specs.ReaderKeys.{nobody}
 use Rattle.image_view.specs.Images.{Image, block_at}
 use Rattle.image_view.specs.Numbers.{field, journal, logical, standing}
-use Rattle.image_view.specs.HostKeys.{lock_state_at}
+use Rattle.image_view.specs.HostKeys.{lock_state_at, slot_state_at}
 use Rattle.image_view.specs.Files.{volume_file}
-use Rattle.image_view.specs.Mappings.{mappings, reference_fields, uses}
+use Rattle.image_view.specs.Mappings.{reference_fields, uses}
 use Rattle.image_view.specs.Balances.{share}
 use Rattle.image_view.specs.Spelled.{AreGiven, IsJournal, IsLockOf, IsSlotOf, IsTable, MayHaveWord}
 use Rattle.image_view.specs.Valid.{IsValid}
@@ -41,7 +39,7 @@ use Rattle.image_view.specs.Formatted.{IsFormatted}
 use Rattle.image_view.specs.laws.FrameLaws.{HasTable-table_of}
 use Rattle.image_view.specs.laws.FileLaws.{volume_file_none}
 use Rattle.image_view.specs.laws.BalanceLaws.{share_none}
-use Rattle.image_view.specs.laws.UseLaws.{length-mappings, names_one, sum_by_references_same, uses-sum_by}
+use Rattle.image_view.specs.laws.UseLaws.{sum_by_references_same, uses-sum_by}
 
 -- a number behind the magic and before the end is 0
 behind_magic : (width at : ℕ) (magic : List ℕ) → length magic ≡ 8 → number_at width (magic ++ zeros 4088) (length magic + at) ≡ 0
@@ -71,7 +69,8 @@ blank_lock g counter r = record {
   given = All-cons (λ key. key / 16 ≤ counter) 0 (replicate 16 0) (omega arith) (given_none counter 16);
 }
 
-blank_journal : (g : Geometry) (counter : ℕ) (block : List ℕ) → block ≡ codes "DEDEJRNL" ++ zeros 4088 → (edits_of block ≡ []) × IsJournal g counter block
+blank_journal : (g : Geometry) (counter : ℕ) (block : List ℕ) → block ≡ codes "DEDEJRNL" ++ zeros 4088
+    → (edits_of block ≡ []) × IsJournal g counter block
 blank_journal g counter block is =
     let count : u32_at block 8 ≡ 0 = ap (λ (xs : List ℕ). u32_at xs 8) is ∙ behind_magic 4 0 (codes "DEDEJRNL") refl in
     let key : journal_key block ≡ 0 = ap (λ (xs : List ℕ). u64_at xs 16) is ∙ behind_magic 8 8 (codes "DEDEJRNL") refl in
@@ -176,6 +175,10 @@ lock-formatted : (g : Geometry) (image : Image) (r : Resource) → IsFormatted g
 unfolding lock_state_at
 lock-formatted g image r formatted has = ap (λ (block : List ℕ). u32_at block 8) (formatted.locks r has) ∙ behind_magic 4 0 (codes "DEDELOCK") refl
 
+pub slot-formatted : (g : Geometry) (image : Image) (h : ℕ) → IsFormatted g image → h < g.hosts → slot_state_at g image h ≡ 0
+unfolding slot_state_at
+slot-formatted g image h formatted below = ap (λ (block : List ℕ). u32_at block 8) (formatted.slots h below) ∙ behind_magic 4 0 (codes "DEDESLOT") refl
+
 sum_by_zeros : {X : Type 0} (xs : List X) → sum_by (λ x. 0) xs ≡ 0
 sum_by_zeros [] = refl
 sum_by_zeros {X} (x ∷ xs) = rw (sum_by-cons {X = X} (λ x. 0) x xs, sum_by_zeros xs) refl
@@ -208,16 +211,6 @@ formatted_is_valid g counter image formatted = record {
   };
 }
 
-names_none : names_one 0 ≡ 0
-unfolding names_one
-names_none = refl
-
 -- it has no file, and nothing of it is used or mapped
 pub formatted_has_no_file : (g : Geometry) (image : Image) (f : ℕ) → IsFormatted g image → f < g.files → volume_file g image f ≡ None
 formatted_has_no_file g image f formatted below = volume_file_none g image f (logical-formatted g image (Head f) formatted below)
-
-pub formatted_mappings : (g : Geometry) (image : Image) → IsFormatted g image → length (mappings g image) ≡ 0
-formatted_mappings g image formatted =
-    length-mappings g image
-    ∙ sum_by_references_same g (λ x. names_one (logical g image x)) (λ x. 0) (λ x has. ap names_one (logical-formatted g image x formatted has) ∙ names_none)
-    ∙ sum_by_zeros (reference_fields g)

@@ -53,11 +53,13 @@ pub IsVolume-valid : (g : Geometry) (counter : ℕ) (image : Image) → IsValid 
 IsVolume-valid g counter image valid = let P : Geometry → Type 0 = λ k. IsValid k counter image in subst P (sym (geometry_of-spelled g image valid.geometry)) valid
 
 -- the files of an image are those of its volume, and a blank image has none
-pub image_file-volume : (g : Geometry) (image : Image) (f : ℕ) → SpellsGeometry (first_block image) g → f < g.files → image_file image f ≡ volume_file g image f
+pub image_file-volume : (g : Geometry) (image : Image) (f : ℕ) → SpellsGeometry (first_block image) g → f < g.files
+    → image_file image f ≡ volume_file g image f
 unfolding image_file
 image_file-volume g image f h below = rw (not_blank g image h, geometry_of-spelled g image h, lt-ltb f g.files below) refl
 
-pub image_file-past : (g : Geometry) (image : Image) (f : ℕ) → SpellsGeometry (first_block image) g → g.files ≤ f → image_file image f ≡ None
+pub image_file-past : (g : Geometry) (image : Image) (f : ℕ) → SpellsGeometry (first_block image) g → g.files ≤ f
+    → image_file image f ≡ None
 unfolding image_file
 image_file-past g image f h past = rw (not_blank g image h, geometry_of-spelled g image h, le-ltb f g.files past) refl
 

@@ -21,7 +21,8 @@ use Rattle.image_view.specs.laws.EditLaws.{edited-append, edited_touched, edited
 use Rattle.image_view.specs.laws.FrameLaws.{field_kept, journal_kept, standing_kept}
 
 -- the key that a slot shows is one of its host
-pub slot_key-host : (g : Geometry) (counter : ℕ) (image : Image) (h : ℕ) → IsValid g counter image → h < g.hosts → slot_key_at g image h ≢ 0 → slot_key_at g image h % 16 ≡ h
+pub slot_key-host : (g : Geometry) (counter : ℕ) (image : Image) (h : ℕ) → IsValid g counter image → h < g.hosts → slot_key_at g image h ≢ 0
+    → slot_key_at g image h % 16 ≡ h
 unfolding slot_key_at
 slot_key-host g counter image h valid below some =
     let s = valid.slots h below in
@@ -33,7 +34,8 @@ touched_some [] x h e = cc
 touched_some (e ∷ es) x h e' = cc
 
 -- a host's record holds what it edits by the key that its slot shows
-pub record_key : (g : Geometry) (counter : ℕ) (image : Image) (h : ℕ) (x : Field) → IsValid g counter image → h < g.hosts → touches (journal g image h) x ≡ true
+pub record_key : (g : Geometry) (counter : ℕ) (image : Image) (h : ℕ) (x : Field) → IsValid g counter image → h < g.hosts
+    → touches (journal g image h) x ≡ true
     → (slot_key_at g image h ≢ 0) × IsHeldBy g image (resource_of x) (slot_key_at g image h)
 record_key g counter image h x valid below touched =
     let shown = valid.held.records h below (touched_some (journal g image h) x touched) in
@@ -41,7 +43,8 @@ record_key g counter image h x valid below touched =
     (shown.0, rw (shown.1) at (holds.1))
 
 -- where one host's slot shows the key that holds a field's resource, no other host's record edits the field
-pub others_untouched : (g : Geometry) (counter : ℕ) (image : Image) (h k : ℕ) (x : Field) → IsValid g counter image → h < g.hosts → slot_key_at g image h ≢ 0 → IsHeldBy g image (resource_of x) (slot_key_at g image h)
+pub others_untouched : (g : Geometry) (counter : ℕ) (image : Image) (h k : ℕ) (x : Field) → IsValid g counter image → h < g.hosts
+    → slot_key_at g image h ≢ 0 → IsHeldBy g image (resource_of x) (slot_key_at g image h)
     → k < g.hosts → k ≢ h → touches (journal g image k) x ≡ false
 others_untouched g counter image h k x valid below some holds below' ne =
     false_from_ne_true (touches (journal g image k) x) (λ touched.
@@ -52,7 +55,8 @@ others_untouched g counter image h k x valid below some holds below' ne =
     ne (sym there ∙ ap (λ n. n % 16) keys ∙ here))
 
 -- no two journals of a valid image edit one field
-pub journals_apart : (g : Geometry) (counter : ℕ) (image : Image) (h k : ℕ) (x : Field) → IsValid g counter image → h < g.hosts → k < g.hosts
+pub journals_apart : (g : Geometry) (counter : ℕ) (image : Image) (h k : ℕ) (x : Field) → IsValid g counter image → h < g.hosts
+    → k < g.hosts
     → touches (journal g image h) x ≡ true → k ≢ h → touches (journal g image k) x ≡ false
 journals_apart g counter image h k x valid below below' touched ne =
     let own = record_key g counter image h x valid below touched in
@@ -70,7 +74,8 @@ edited_each j j' x n a (suc c) m le same =
     ∙ sym (edited-append (j a) (flat_map j (range_with_len (a + 1) c)) x n)
 
 -- of lists of edits of which at most one edits the field, that one counts
-edited_only : (j : ℕ → List Edit) (x : Field) (n a c h m : ℕ) → a + c ≤ m → ((k : ℕ) → k < m → k ≢ h → touches (j k) x ≡ false) → a ≤ h → h < a + c
+edited_only : (j : ℕ → List Edit) (x : Field) (n a c h m : ℕ) → a + c ≤ m → ((k : ℕ) → k < m → k ≢ h → touches (j k) x ≡ false) → a ≤ h
+    → h < a + c
     → edited (flat_map j (range_with_len a c)) x n ≡ edited (j h) x n
 edited_only j x n a zero h m le none low high = absurd (omega arith)
 edited_only j x n a (suc c) h m le none low high =
@@ -80,7 +85,8 @@ edited_only j x n a (suc c) h m le none low high =
       | inr other ↦ step ∙ edited_untouched (j a) x (edited (flat_map j (range_with_len (a + 1) c)) x n) (none a (omega arith) other) ∙ edited_only j x n (a + 1) c h m (omega arith) none (omega arith) (omega arith)
     ]
   where
-    rest_none : (j : ℕ → List Edit) (x : Field) (n a c m : ℕ) → a + c ≤ m → ((k : ℕ) → k < m → a ≤ k → touches (j k) x ≡ false) → edited (flat_map j (range_with_len a c)) x n ≡ n
+    rest_none : (j : ℕ → List Edit) (x : Field) (n a c m : ℕ) → a + c ≤ m → ((k : ℕ) → k < m → a ≤ k → touches (j k) x ≡ false)
+        → edited (flat_map j (range_with_len a c)) x n ≡ n
     rest_none j x n a zero m le none = refl
     rest_none j x n a (suc c) m le none =
         edited-append (j a) (flat_map j (range_with_len (a + 1) c)) x n
@@ -88,12 +94,14 @@ edited_only j x n a (suc c) h m le none low high =
         ∙ rest_none j x n (a + 1) c m (omega arith) (λ k lt ge. none k lt (omega arith))
 
 -- a field that no other journal edits has the number that its host's record leaves
-pub logical_own : (g : Geometry) (image : Image) (h : ℕ) (x : Field) → h < g.hosts → ((k : ℕ) → k < g.hosts → k ≢ h → touches (journal g image k) x ≡ false)
+pub logical_own : (g : Geometry) (image : Image) (h : ℕ) (x : Field) → h < g.hosts
+    → ((k : ℕ) → k < g.hosts → k ≢ h → touches (journal g image k) x ≡ false)
     → logical g image x ≡ edited (journal g image h) x (field g image x)
 unfolding logical standing
 logical_own g image h x below none = edited_only (λ h. journal g image h) x (field g image x) 0 g.hosts h g.hosts (omega arith) none (omega arith) (omega arith)
 
-part_untouched : (j : ℕ → List Edit) (x : Field) (a c k : ℕ) → a ≤ k → k < a + c → touches (flat_map j (range_with_len a c)) x ≡ false → touches (j k) x ≡ false
+part_untouched : (j : ℕ → List Edit) (x : Field) (a c k : ℕ) → a ≤ k → k < a + c → touches (flat_map j (range_with_len a c)) x ≡ false
+    → touches (j k) x ≡ false
 part_untouched j x a zero k low high none = absurd (omega arith)
 part_untouched j x a (suc c) k low high none =
     let both = or_parts (touches (j a) x) (touches (flat_map j (range_with_len (a + 1) c)) x) (sym (touches-append (j a) (flat_map j (range_with_len (a + 1) c)) x) ∙ none) in

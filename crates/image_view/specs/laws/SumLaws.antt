@@ -1,5 +1,6 @@
 -- Sums over lists of fields, and what edits change of them.
-use Rattle.std.proofs.Common.{◌≡◌, ◌≢◌, ◌<◌, ◌≤◌, ◌+◌, ◌*◌, ℕ, zero, suc, true, false, cond, List, [], ◌∷◌, map, length, sum_by, count_by, Option, Some, None, if◌then◌else◌, refl, sym, ap, ◌∙◌, inl, inr, arith}
+use Rattle.std.proofs.Common.{◌≡◌, ◌≢◌, ◌<◌, ◌≤◌, ◌+◌, ◌*◌, ℕ, zero, suc, add-one, add-zero, zero-add, Bool, true, false, cond, List, [], ◌∷◌, map, length, sum_by, count_by, Option, Some, None, if◌then◌else◌, refl, sym, ap, ◌∙◌, inl, inr, arith}
+use mir.Val.{bool_byte}
 use Rattle.std.specs.List.{cons_option, filter_map, flat_map, range_with_len}
 use Rattle.std.specs.Option.{option_map_or}
 use Rattle.std.proofs.lemmas.Bool.{both_ways, cases_Bool, cases_eq, false_from_ne_true}
@@ -24,7 +25,8 @@ sum_by-flat_map w f [] = refl
 sum_by-flat_map w f (x ∷ xs) = rw (sum_by-append w (f x) (flat_map f xs), sum_by-cons (λ x. sum_by w (f x)) x xs, sum_by-flat_map w f xs) refl
 
 -- where an item may be left out, its term is 0
-pub sum_by-filter_map : {X Y : Type 0} (w : Y → ℕ) (f : X → Option Y) (xs : List X) → sum_by w (filter_map f xs) ≡ sum_by (λ x. option_map_or w (f x) 0) xs
+pub sum_by-filter_map : {X Y : Type 0} (w : Y → ℕ) (f : X → Option Y) (xs : List X)
+    → sum_by w (filter_map f xs) ≡ sum_by (λ x. option_map_or w (f x) 0) xs
 sum_by-filter_map w f [] = refl
 sum_by-filter_map {X} {Y} w f (x ∷ xs) =
     let one : (o : Option Y) (ys : List Y) → sum_by w (cons_option o ys) ≡ option_map_or w o 0 + sum_by w ys = taken w in
@@ -38,6 +40,29 @@ sum_by-filter_map {X} {Y} w f (x ∷ xs) =
 pub length-sum_by : {X : Type 0} (xs : List X) → length xs ≡ sum_by (λ x. 1) xs
 length-sum_by [] = refl
 length-sum_by {X} (x ∷ xs) = rw (sum_by-cons {X = X} (λ x. 1) x xs, sum_by (λ x. 1) xs, length-sum_by xs) (omega arith)
+
+-- a sum over a range with one more number
+pub sum_by_range_more : (w : ℕ → ℕ) (n : ℕ) → sum_by w (range_with_len 0 (n + 1)) ≡ sum_by w (range_with_len 0 n) + w n
+sum_by_range_more w n = rw (add-one n) (sum_from w 0 n ∙ ap (λ k. sum_by w (range_with_len 0 n) + w k) (zero-add n))
+  where
+    sum_from : (w : ℕ → ℕ) (a n : ℕ) → sum_by w (range_with_len a (suc n)) ≡ sum_by w (range_with_len a n) + w (a + n)
+    sum_from w a zero = rw (add-zero a) refl
+    sum_from w a (suc n) =
+        let next : a + 1 + n ≡ a + suc n = omega arith in
+        rw (sum_by-cons w a (range_with_len (a + 1) (suc n)), sum_by-cons w a (range_with_len (a + 1) n), sum_from w (a + 1) n, next) (omega arith)
+
+-- a sum and a count with one more number
+pub summed_more : (w : ℕ → ℕ) (n u r : ℕ) → u ≡ sum_by w (range_with_len 0 n) → r ≡ w n → u + r ≡ sum_by w (range_with_len 0 (n + 1))
+summed_more w n u r eu er = rw (sum_by_range_more w n, eu, er) refl
+
+-- a test as a number
+pub bool_byte-is : (b : Bool) → bool_byte b ≡ cond b 1 0
+bool_byte-is true = refl
+bool_byte-is false = refl
+
+pub bit_le : (b : Bool) → cond b 1 0 ≤ 1
+bit_le true = omega arith
+bit_le false = omega arith
 
 -- how often a number stands in a range, weighted: once, if it is in the range, where the others weigh nothing
 pub sum_by-range : (w : ℕ → ℕ) (a n k : ℕ) → ((j : ℕ) → j ≢ k → w j ≡ 0) → a ≤ k → k < a + n → sum_by w (range_with_len a n) ≡ w k

@@ -1,5 +1,5 @@
 -- How often a data number is mapped, as a sum over pointers and slots.
-use Rattle.std.proofs.Common.{◌≡◌, ◌≢◌, ◌<◌, ◌≤◌, ◌+◌, ◌-◌, ◌*◌, ◌==◌, ℕ, zero, suc, false, cond, List, [], ◌∷◌, map, length, sum_by, Option, Some, None, if◌then◌else◌, refl, ap, ◌∙◌, inl, inr, arith}
+use Rattle.std.proofs.Common.{◌≡◌, ◌≢◌, ◌<◌, ◌≤◌, ◌+◌, ◌-◌, ◌*◌, ◌%◌, ◌^◌, ◌==◌, ℕ, zero, suc, false, cond, List, [], ◌∷◌, map, length, sum_by, Option, Some, None, if◌then◌else◌, refl, ap, ◌∙◌, inl, inr, arith}
 use Rattle.std.specs.Prelude.{All, option_map}
 use Rattle.std.proofs.Math.Nat.{mod-eq_of_lt}
 use Rattle.std.proofs.lemmas.List.Elements.{All-head, All-tail}
@@ -23,13 +23,16 @@ use Rattle.image_view.specs.Counted.{IsCounted}
 use Rattle.image_view.specs.Records.{IsEdited, KeepsMarks}
 use Rattle.vol_layout.specs.laws.EditLaws.{other_field-is, same_field-refl}
 use Rattle.image_view.specs.laws.EditLaws.{edited_untouched}
+use Rattle.vol_base.specs.laws.RangeLaws.{sum_by_range_same}
 use Rattle.image_view.specs.laws.SumLaws.{given_to, length-sum_by, sum_by-filter_map, sum_by-flat_map, sum_by-map, sum_by-range, sum_by_same, sum_edited, taken_from, times}
 
 -- the mapping of a pointer or slot, where it names a data number
 abbrev mapping : Field → Option ℕ → Option Mapping
 mapping x o = option_map (λ d. record { by = x; number = d }) o
 
-use_of : (x : Field) (d : ℕ) (o : Option ℕ) → ◌≡◌ {A = ℕ} (option_map_or (λ (m : Mapping). cond (m.number == d) 1 0) (mapping x o) 0) (option_map_or (λ e. if e == d then 1 else 0) o 0)
+use_of : (x : Field) (d : ℕ) (o : Option ℕ)
+    → ◌≡◌ {A = ℕ} (option_map_or (λ (m : Mapping). cond (m.number == d) 1 0) (mapping x o) 0)
+    (option_map_or (λ e. if e == d then 1 else 0) o 0)
 use_of x d None = refl
 use_of x d (Some e) = refl
 
@@ -45,12 +48,22 @@ uses-sum_by g image d =
 unfoldable pub names_one : ℕ → ℕ
 names_one n = option_map_or (λ d. 1) (named n) 0
 
-mapping_count : (x : Field) (o : Option ℕ) → ◌≡◌ {A = ℕ} (option_map_or (λ (m : Mapping). 1) (mapping x o) 0) (option_map_or (λ (e : ℕ). 1) o 0)
+pub names_none : (n : ℕ) → n % 2 ^ 31 ≡ 0 → names_one n ≡ 0
+unfolding names_one
+names_none n h = rw h refl
+
+pub names_some : (n : ℕ) → n % 2 ^ 31 ≢ 0 → names_one n ≡ 1
+unfolding names_one
+names_some n h = rw (ne_eqb (n % 2 ^ 31) 0 h) refl
+
+mapping_count : (x : Field) (o : Option ℕ)
+    → ◌≡◌ {A = ℕ} (option_map_or (λ (m : Mapping). 1) (mapping x o) 0) (option_map_or (λ (e : ℕ). 1) o 0)
 mapping_count x None = refl
 mapping_count x (Some e) = refl
 
 -- the mappings are as many as the pointers and slots that name a data number
-pub length-mappings : (g : Geometry) (image : Image) → length (mappings g image) ≡ sum_by (λ x. names_one (logical g image x)) (reference_fields g)
+pub length-mappings : (g : Geometry) (image : Image)
+    → length (mappings g image) ≡ sum_by (λ x. names_one (logical g image x)) (reference_fields g)
 unfolding mappings names_one
 length-mappings g image =
     length-sum_by (filter_map (mapping_of g image) (reference_fields g))
@@ -60,7 +73,9 @@ length-mappings g image =
 
 -- a sum over all pointers and slots, file by file
 pub sum_by-reference_fields : (g : Geometry) (w : Field → ℕ)
-    → sum_by w (reference_fields g) ≡ sum_by (λ f. sum_by (λ i. w (Pointer f i)) (range_with_len 0 (limit g))) (range_with_len 0 g.files) + sum_by (λ s. w (Slot s)) (range_with_len 0 (arena_slots g))
+    → sum_by w (reference_fields g)
+    ≡ sum_by (λ f. sum_by (λ i. w (Pointer f i)) (range_with_len 0 (limit g))) (range_with_len 0 g.files)
+    + sum_by (λ s. w (Slot s)) (range_with_len 0 (arena_slots g))
 unfolding reference_fields
 sum_by-reference_fields g w =
     sum_by-append w (flat_map (λ f. pointers_of g f) (range_with_len 0 g.files)) (map (λ s. Slot s) (range_with_len 0 (arena_slots g)))
@@ -69,14 +84,9 @@ sum_by-reference_fields g w =
     (sum_by_same (λ f. sum_by w (pointers_of g f)) (λ f. sum_by (λ i. w (Pointer f i)) (range_with_len 0 (limit g))) (range_with_len 0 g.files)
     (λ f. sum_by-map w (λ i. Pointer f i) (range_with_len 0 (limit g)))))
 
--- a sum over a range of terms that are equal there
-sum_by_range_same : (w w' : ℕ → ℕ) (a n m : ℕ) → a + n ≤ m → ((k : ℕ) → k < m → w k ≡ w' k) → sum_by w (range_with_len a n) ≡ sum_by w' (range_with_len a n)
-sum_by_range_same w w' a zero m le same = refl
-sum_by_range_same w w' a (suc n) m le same =
-    rw (sum_by-cons w a (range_with_len (a + 1) n), sum_by-cons w' a (range_with_len (a + 1) n), same a (omega arith), sum_by_range_same w w' (a + 1) n m (omega arith) same) refl
-
 -- sums over all pointers and slots of terms that are equal for each of them
-pub sum_by_references_same : (g : Geometry) (w w' : Field → ℕ) → ((x : Field) → HasField g x → w x ≡ w' x) → sum_by w (reference_fields g) ≡ sum_by w' (reference_fields g)
+pub sum_by_references_same : (g : Geometry) (w w' : Field → ℕ) → ((x : Field) → HasField g x → w x ≡ w' x)
+    → sum_by w (reference_fields g) ≡ sum_by w' (reference_fields g)
 sum_by_references_same g w w' same =
     let files = sum_by_range_same (λ f. sum_by (λ i. w (Pointer f i)) (range_with_len 0 (limit g))) (λ f. sum_by (λ i. w' (Pointer f i)) (range_with_len 0 (limit g))) 0 g.files g.files (omega arith)
     (λ f hf. sum_by_range_same (λ i. w (Pointer f i)) (λ i. w' (Pointer f i)) 0 (limit g) (limit g) (omega arith) (λ i hi. same (Pointer f i) (hf, hi))) in
@@ -99,10 +109,13 @@ here_once : (x : Field) → stands x x ≡ 1
 here_once x = ap (λ b. cond b 1 0) (same_field-refl x)
 
 times_split : (g : Geometry) (x : Field)
-    → times (reference_fields g) x ≡ sum_by (λ f. sum_by (λ i. stands x (Pointer f i)) (range_with_len 0 (limit g))) (range_with_len 0 g.files) + sum_by (λ s. stands x (Slot s)) (range_with_len 0 (arena_slots g))
+    → times (reference_fields g) x
+    ≡ sum_by (λ f. sum_by (λ i. stands x (Pointer f i)) (range_with_len 0 (limit g))) (range_with_len 0 g.files)
+    + sum_by (λ s. stands x (Slot s)) (range_with_len 0 (arena_slots g))
 times_split g x = sum_by-reference_fields g (stands x)
 
-no_pointer : (g : Geometry) (x : Field) → ((f i : ℕ) → Pointer f i ≢ x) → sum_by (λ f. sum_by (λ i. stands x (Pointer f i)) (range_with_len 0 (limit g))) (range_with_len 0 g.files) ≡ 0
+no_pointer : (g : Geometry) (x : Field) → ((f i : ℕ) → Pointer f i ≢ x)
+    → sum_by (λ f. sum_by (λ i. stands x (Pointer f i)) (range_with_len 0 (limit g))) (range_with_len 0 g.files) ≡ 0
 no_pointer g x ne =
     sum_by_zero (λ f. sum_by (λ i. stands x (Pointer f i)) (range_with_len 0 (limit g))) (range_with_len 0 g.files)
     (λ f. sum_by_zero (λ i. stands x (Pointer f i)) (range_with_len 0 (limit g)) (λ i. apart_none x (Pointer f i) (ne f i)))
@@ -127,29 +140,30 @@ times-reference g (Pointer f i) has n d =
     rw (times_split g (Pointer f i), outer, inner, here_once (Pointer f i), no_slot g (Pointer f i) (λ s e. cc)) (omega arith)
 
 -- the edits are of fields of the volume
-abbrev AreOf : Geometry → List Edit → Type 0
+abbrev pub AreOf : Geometry → List Edit → Type 0
 AreOf g [] = Unit {0}
 AreOf g (e ∷ es) = HasField g e.field × AreOf g es
 
-lost-taken : (g : Geometry) (numbers : Field → ℕ) (d : ℕ) (es : List Edit) → AreOf g es → taken_from (λ x n. share n d) numbers (reference_fields g) es ≡ lost numbers es d
+pub lost-taken : (g : Geometry) (numbers : Field → ℕ) (d : ℕ) (es : List Edit) → AreOf g es
+    → taken_from (λ x n. share n d) numbers (reference_fields g) es ≡ lost numbers es d
 lost-taken g numbers d [] of = refl
 lost-taken g numbers d (e ∷ es) of =
     rw (sum_by-cons (λ e. times (reference_fields g) e.field * share (numbers e.field) d) e es, sum_by-cons (λ e. share_of e.field (numbers e.field) d) e es, times-reference g e.field of.0 (numbers e.field) d, lost-taken g numbers d es of.1) refl
 
-gained-given : (g : Geometry) (d : ℕ) (es : List Edit) → AreOf g es → given_to (λ x n. share n d) (reference_fields g) es ≡ gained es d
+pub gained-given : (g : Geometry) (d : ℕ) (es : List Edit) → AreOf g es → given_to (λ x n. share n d) (reference_fields g) es ≡ gained es d
 gained-given g d [] of = refl
 gained-given g d (e ∷ es) of =
     rw (sum_by-cons (λ e. times (reference_fields g) e.field * share e.number d) e es, sum_by-cons (λ e. share_of e.field e.number d) e es, times-reference g e.field of.0 e.number d, gained-given g d es of.1) refl
 
-fields_of : (g : Geometry) (es : List Edit) → All (IsEdit g) es → AreOf g es
-fields_of g [] each = tt
-fields_of g (e ∷ es) each = ((All-head (IsEdit g) e es each).0, fields_of g es (All-tail (IsEdit g) e es each))
+pub fields-of : (g : Geometry) (es : List Edit) → All (IsEdit g) es → AreOf g es
+fields-of g [] each = tt
+fields-of g (e ∷ es) each = ((All-head (IsEdit g) e es each).0, fields-of g es (All-tail (IsEdit g) e es each))
 
 -- the uses after edits, with those that they take, are the uses before, with those that they give
 pub uses-edited : (g : Geometry) (old new : Image) (es : List Edit) (d : ℕ) → AreEdits g es → IsEdited g old new es
     → uses g new d + lost (λ x. logical g old x) es d ≡ uses g old d + gained es d
 uses-edited g old new es d edits after =
-    let of = fields_of g es edits.each in
+    let of = fields-of g es edits.each in
     let sum = sum_edited (λ x n. share n d) (λ x. logical g old x) (reference_fields g) es edits.apart in
     rw (
       uses-sum_by g new d,
@@ -160,7 +174,8 @@ uses-edited g old new es d edits after =
     ) sum
 
 -- edits that balance keep each count equal to its uses
-pub counts-edited : (g : Geometry) (old new : Image) (es : List Edit) → AreEdits g es → IsEdited g old new es → Balances g (λ x. logical g old x) es
+pub counts-edited : (g : Geometry) (old new : Image) (es : List Edit) → AreEdits g es → IsEdited g old new es
+    → Balances g (λ x. logical g old x) es
     → ((d : ℕ) → HasField g (Count d) → logical g old (Count d) ≡ uses g old d)
     → (d : ℕ) → HasField g (Count d) → logical g new (Count d) ≡ uses g new d
 counts-edited g old new es edits after balances counts d has =
@@ -200,7 +215,8 @@ share_unmarked n h =
     rw (small, some, eq-eqb (n - 1) (n - 1) refl) refl
 
 -- edits that balance and keep marks right keep an image counted
-pub counted-edited : (g : Geometry) (old new : Image) (es : List Edit) → AreEdits g es → IsEdited g old new es → Balances g (λ x. logical g old x) es → KeepsMarks g old es
+pub counted-edited : (g : Geometry) (old new : Image) (es : List Edit) → AreEdits g es → IsEdited g old new es
+    → Balances g (λ x. logical g old x) es → KeepsMarks g old es
     → IsCounted g old → IsCounted g new
 counted-edited g old new es edits after balances marks was = record {
   counts = counts-edited g old new es edits after balances was.counts;

@@ -30,13 +30,15 @@ slot_in-shared : (hint : HintTo) (slot : ℕ) → slot_in hint ≡ Some slot →
 slot_in-shared (to.Shared s) slot e = cc
 slot_in-shared (to.Unique file index) slot e = cc
 
-other-shown : (b : Bool) (file index f i : ℕ) → cond {A = Option (ℕ × ℕ)} b None (Some (file, index)) ≡ Some (f, i) → to.Unique file index ≡ to.Unique f i
+other-shown : (b : Bool) (file index f i : ℕ) → cond {A = Option (ℕ × ℕ)} b None (Some (file, index)) ≡ Some (f, i)
+    → to.Unique file index ≡ to.Unique f i
 other-shown true file index f i e = cc
 other-shown false file index f i e =
     let pair : (file, index) ≡ (f, i) = cc in
     ap (λ (p : ℕ × ℕ). to.Unique p.0 p.1) pair
 
-other_in-unique : (entry : LogEntry) (hint : HintTo) (file index : ℕ) → other_in entry hint ≡ Some (file, index) → hint ≡ to.Unique file index
+other_in-unique : (entry : LogEntry) (hint : HintTo) (file index : ℕ) → other_in entry hint ≡ Some (file, index)
+    → hint ≡ to.Unique file index
 other_in-unique entry (to.Unique f i) file index e = other-shown (f == entry.file && i == entry.index) f i file index e
 other_in-unique entry (to.Shared s) file index e = cc
 
@@ -71,7 +73,8 @@ line-place false now None other false file index e = cc
 
 -- the slot of a share or a request is that of a shared entry
 pub decision-slot : (entry : LogEntry) (held : Bool) (now : Option Digest) (found : List IndexEntry) (slot : ℕ)
-    → (decision entry held now found ≡ Share slot) ⊎ (decision entry held now found ≡ Post slot) → Any (λ hint. hint.to ≡ to.Shared slot) found
+    → (decision entry held now found ≡ Share slot) ⊎ (decision entry held now found ≡ Post slot)
+    → Any (λ hint. hint.to ≡ to.Shared slot) found
 unfolding first_shared
 decision-slot entry held now found slot e =
     let first = line-slot held (is_now entry.digest now) (first_shared found) (first_other entry found) (has_own entry found) slot e in

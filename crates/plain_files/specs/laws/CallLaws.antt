@@ -29,7 +29,8 @@ unfolding after
 file_of-after_other p call file other = get_or-set_other p.files (file_no call) file _ None other
 
 -- what a call makes of its file
-pub file_of-after_same : (p : Plain) (call : PlainCall) → file_no call < length p.files → file_of (after p call) (file_no call) ≡ (outcome p.limit call (file_of p (file_no call))).1
+pub file_of-after_same : (p : Plain) (call : PlainCall) → file_no call < length p.files
+    → file_of (after p call) (file_no call) ≡ (outcome p.limit call (file_of p (file_no call))).1
 unfolding after
 file_of-after_same p call there = get_or-set_same p.files (file_no call) _ None there
 

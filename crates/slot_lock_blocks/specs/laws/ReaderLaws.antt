@@ -31,7 +31,8 @@ pub somebody : (readers : List ℕ) (host : ℕ) → slice_index readers host �
 somebody readers host reads none = reads (ap (λ (keys : List ℕ). slice_index keys host) none ∙ slice_index-nobody host)
 
 -- readers stay readers where a host's key is noted, or that it does not read
-pub AreReaders-set : (readers : List ℕ) (host key : ℕ) → AreReaders readers → host < 16 → key < 2 ^ 64 → (key ≢ 0 → key % 16 ≡ host) → AreReaders (set readers host key)
+pub AreReaders-set : (readers : List ℕ) (host key : ℕ) → AreReaders readers → host < 16 → key < 2 ^ 64 → (key ≢ 0 → key % 16 ≡ host)
+    → AreReaders (set readers host key)
 AreReaders-set readers host key are below small of = record {
   long = length-set readers host key ∙ are.long;
   width = All-set (λ n. n < 2 ^ 64) readers host key small are.width;

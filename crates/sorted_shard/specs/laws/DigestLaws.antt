@@ -57,5 +57,6 @@ below_is_other one other h = false_from_ne_true (bytes_eq one other) (λ e. fals
 pub above_is_other : (one other : List ℕ) → is_le (compared one other) ≡ false → bytes_eq one other ≡ false
 above_is_other one other h = false_from_ne_true (bytes_eq one other) (λ e. true≢false (sym (ap is_le (equal one other e)) ∙ h))
 
-pub between_is_same : (one other : List ℕ) → is_lt (compared one other) ≡ false → is_le (compared one other) ≡ true → bytes_eq one other ≡ true
+pub between_is_same : (one other : List ℕ) → is_lt (compared one other) ≡ false → is_le (compared one other) ≡ true
+    → bytes_eq one other ≡ true
 between_is_same one other h k = (bytes_eq-Decides one other).1 (exact_bytes one other (tied (compared one other) h k))

@@ -29,7 +29,8 @@ tied Less low high = absurd (low refl)
 tied Equal low high = refl
 tied Greater low high = absurd (high refl)
 
-neither : (one other : List ℕ) → (is_lt (compared one other) ≡ true → ⊥) → (is_lt (compared other one) ≡ true → ⊥) → compared one other ≡ Equal
+neither : (one other : List ℕ) → (is_lt (compared one other) ≡ true → ⊥) → (is_lt (compared other one) ≡ true → ⊥)
+    → compared one other ≡ Equal
 neither one other low high = tied (compared one other) low (λ h. high (ap is_lt (nat_list_cmp_total.antisymm other one) ∙ h))
 
 itself : (digest : List ℕ) → bytes_eq digest digest ≡ true
@@ -40,7 +41,8 @@ first : (e : IndexEntry) (es : List IndexEntry) → with_digest (digest_of e) (e
 first e es = rw (itself (digest_of e)) refl
 
 -- a digest that is below the first one is not there
-none_below : (e : IndexEntry) (es : List IndexEntry) (digest : List ℕ) → IsSortedByDigest (e ∷ es) → is_lt (compared digest (digest_of e)) ≡ true
+none_below : (e : IndexEntry) (es : List IndexEntry) (digest : List ℕ) → IsSortedByDigest (e ∷ es)
+    → is_lt (compared digest (digest_of e)) ≡ true
     → All (λ x. bytes_eq (digest_of x) digest ≡ false) (e ∷ es)
 none_below e es digest s low k d h =
     let x = get_or (e ∷ es) k d in
@@ -50,7 +52,8 @@ none_below e es digest s low k d h =
     (λ same. false≢true (sym up ∙ ap (λ (xs : List ℕ). is_lt (compared xs (digest_of e))) ((bytes_eq-Decides (digest_of x) digest).0 same) ∙ low))
 
 -- the first digest of one list is not below that of another with the same entries of each digest
-not_below_first : (y z : IndexEntry) (ys zs : List IndexEntry) → IsSortedByDigest (z ∷ zs) → with_digest (digest_of y) (y ∷ ys) ≡ with_digest (digest_of y) (z ∷ zs)
+not_below_first : (y z : IndexEntry) (ys zs : List IndexEntry) → IsSortedByDigest (z ∷ zs)
+    → with_digest (digest_of y) (y ∷ ys) ≡ with_digest (digest_of y) (z ∷ zs)
     → is_lt (compared (digest_of y) (digest_of z)) ≡ true → ⊥
 not_below_first y z ys zs s same low =
     let nothing = filter_none (λ x. bytes_eq (digest_of x) (digest_of y)) (z ∷ zs) (none_below z zs (digest_of y) s low) in
@@ -58,7 +61,8 @@ not_below_first y z ys zs s same low =
     cc
 
 -- the entries behind the first
-behind : (d : List ℕ) (y : IndexEntry) (ys zs : List IndexEntry) → with_digest d (y ∷ ys) ≡ with_digest d (y ∷ zs) → with_digest d ys ≡ with_digest d zs
+behind : (d : List ℕ) (y : IndexEntry) (ys zs : List IndexEntry) → with_digest d (y ∷ ys) ≡ with_digest d (y ∷ zs)
+    → with_digest d ys ≡ with_digest d zs
 behind d y ys zs same = cancel (bytes_eq (digest_of y) d) y (with_digest d ys) (with_digest d zs) same
 
 sorted_rest : (e : IndexEntry) (es : List IndexEntry) → IsSortedByDigest (e ∷ es) → IsSortedByDigest es
@@ -67,7 +71,8 @@ sorted_rest e es s k d z h =
     ap (λ (n : ℕ). is_lt (compared (digest_of (get_or (e ∷ es) n d)) (digest_of (get_or es k d)))) next ∙ s (suc k) d zero-le (omega arith)
 
 -- two sorted lists with the same entries of each digest are one
-pub same_sorted : (ys zs : List IndexEntry) → IsSortedByDigest ys → IsSortedByDigest zs → ((d : List ℕ) → with_digest d ys ≡ with_digest d zs) → ys ≡ zs
+pub same_sorted : (ys zs : List IndexEntry) → IsSortedByDigest ys → IsSortedByDigest zs
+    → ((d : List ℕ) → with_digest d ys ≡ with_digest d zs) → ys ≡ zs
 same_sorted [] [] s t same = refl
 same_sorted [] (z ∷ zs) s t same = let some : [] ≡ z ∷ with_digest (digest_of z) zs = same (digest_of z) ∙ first z zs in cc
 same_sorted (y ∷ ys) [] s t same = let some : y ∷ with_digest (digest_of y) ys ≡ [] = sym (first y ys) ∙ same (digest_of y) in cc

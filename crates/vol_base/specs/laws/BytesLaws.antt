@@ -3,11 +3,11 @@ use Rattle.std.proofs.Common.{replicate, refl, ◌≡◌, ◌<◌, ◌≤◌, �
 use Rattle.std.specs.Prelude.{All}
 use Rattle.std.proofs.lemmas.Bool.{cases_lt}
 use Rattle.std.proofs.lemmas.List.{length-replicate, drop-append-le, drop_at, drop-drop, drop-take, get_or_past, take-replicate, drop-replicate, replicate-append-replicate}
-use Rattle.std.proofs.lemmas.List.Elements.{All-drop}
+use Rattle.std.proofs.lemmas.List.Elements.{All-drop, All-replicate}
 use Rattle.byteorder.specs.Endian.{big_from}
 use Rattle.byteorder.specs.Numbers.{big_from-append, big_from-lt, big_from-take, big_number-reads_back, length-bytes_high_first}
 use Rattle.std.specs.Int.{bytes_high_first}
-use Rattle.vol_base.specs.Bytes.{zeros, bytes_of, number_at}
+use Rattle.vol_base.specs.Bytes.{IsBlock, zeros, bytes_of, number_at}
 
 -- a number has as many bytes as are asked for
 pub length-bytes_of : (n x : ℕ) → length (bytes_of n x) ≡ n
@@ -49,7 +49,8 @@ number_at-last n x at front e h =
     ∙ big_number-reads_back n x [] h
 
 -- a number reads back where it was written, whatever follows
-pub number_at-written : (n x at : ℕ) (front rest : List ℕ) → at ≡ length front → x < 256 ^ n → number_at n ((front ++ bytes_of n x) ++ rest) at ≡ x
+pub number_at-written : (n x at : ℕ) (front rest : List ℕ) → at ≡ length front → x < 256 ^ n
+    → number_at n ((front ++ bytes_of n x) ++ rest) at ≡ x
 number_at-written n x at front rest e h =
     number_at-append n at (front ++ bytes_of n x) rest (omega (arith, length-append front (bytes_of n x), length-bytes_of n x))
     ∙ number_at-last n x at front e h
@@ -105,3 +106,11 @@ big_from-replicate i (suc n) k = rw (slice_index-replicate i k, big_from-replica
 pub number_at-zeros : (n at k : ℕ) → number_at n (zeros k) at ≡ 0
 unfolding number_at zeros
 number_at-zeros n at k = ap (big_from 0 n) (drop-replicate at k 0) ∙ big_from-replicate 0 n (k - at)
+
+zeros_are_small : (n : ℕ) → All (λ byte. byte < 256) (zeros n)
+unfolding zeros
+zeros_are_small n = All-replicate (λ byte. byte < 256) n 0 (omega arith)
+
+-- a block of zeros is a block
+pub IsBlock-zeros : IsBlock (zeros 4096)
+IsBlock-zeros = record { long = length-zeros 4096; small = zeros_are_small 4096 }

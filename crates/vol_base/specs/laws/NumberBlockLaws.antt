@@ -38,7 +38,8 @@ unfolding number_bytes
 length-number_bytes n = length-repeated 512 (bytes_of 8 n) ∙ ap (λ (m : ℕ). 512 * m) (length-bytes_of 8 n)
 
 -- 512 copies leave no room for zeros
-pub filled_up : (n copies : ℕ) (draft bytes : List ℕ) → draft ≡ repeated copies (bytes_of 8 n) → copies ≡ 512 → bytes ≡ draft ++ zeros (4096 - length draft) → bytes ≡ number_bytes n
+pub filled_up : (n copies : ℕ) (draft bytes : List ℕ) → draft ≡ repeated copies (bytes_of 8 n) → copies ≡ 512
+    → bytes ≡ draft ++ zeros (4096 - length draft) → bytes ≡ number_bytes n
 unfolding number_bytes zeros
 filled_up n copies draft bytes e all written =
     let whole : draft ≡ repeated 512 (bytes_of 8 n) = e ∙ ap (λ (m : ℕ). repeated m (bytes_of 8 n)) all in

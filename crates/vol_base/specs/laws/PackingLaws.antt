@@ -97,7 +97,8 @@ All-entries_of w (suc n) bytes h =
     All-cons (λ (entry : List ℕ). length entry ≡ w) (take w bytes) (entries_of w n (drop w bytes)) (length-take-le w bytes (omega arith)) (All-entries_of w n (drop w bytes) (omega (arith, length-drop w bytes)))
 
 -- joined entries are cut into the same entries again
-entries_of-concat : (w : ℕ) (entries : List (List ℕ)) (rest : List ℕ) → All (λ entry. length entry ≡ w) entries → entries_of w (length entries) (concat entries ++ rest) ≡ entries
+entries_of-concat : (w : ℕ) (entries : List (List ℕ)) (rest : List ℕ) → All (λ entry. length entry ≡ w) entries
+    → entries_of w (length entries) (concat entries ++ rest) ≡ entries
 unfolding entries_of
 entries_of-concat w [] rest wide = refl
 entries_of-concat w (e ∷ es) rest wide =
@@ -148,12 +149,14 @@ IsPacked-packed_bytes w p fits =
     (parts.0, rw (parts.1) fits.room)
 
 -- entry k of a block is the piece of its bytes from byte 64 + w * k on
-pub slice_get-entries : (w k : ℕ) (bytes : List ℕ) → k < u32_at bytes 8 → slice_get (packing_of w bytes).entries k ≡ Some (take w (drop (64 + w * k) bytes))
+pub slice_get-entries : (w k : ℕ) (bytes : List ℕ) → k < u32_at bytes 8
+    → slice_get (packing_of w bytes).entries k ≡ Some (take w (drop (64 + w * k) bytes))
 slice_get-entries w k bytes h =
     slice_get-entries_of w (u32_at bytes 8) k (drop 64 bytes) h ∙ ap (λ (xs : List ℕ). Some (take w xs)) (drop-drop (w * k) 64 bytes)
 
 -- number k of a block with entries of four bytes stands at byte 64 + 4 * k
-pub slice_index-numbers : (k : ℕ) (bytes : List ℕ) → k < u32_at bytes 8 → slice_index (numbers (packing_of 4 bytes)) k ≡ u32_at bytes (64 + 4 * k)
+pub slice_index-numbers : (k : ℕ) (bytes : List ℕ) → k < u32_at bytes 8
+    → slice_index (numbers (packing_of 4 bytes)) k ≡ u32_at bytes (64 + 4 * k)
 slice_index-numbers k bytes h =
     let long = length-entries_of 4 (u32_at bytes 8) (drop 64 bytes) in
     get_or-map (λ (entry : List ℕ). u32_at entry 0) (packing_of 4 bytes).entries k [] 0 (omega arith)
@@ -163,7 +166,8 @@ slice_index-numbers k bytes h =
     ∙ ap (u32_at bytes) (omega arith)
 
 -- and it is that number in the bytes that are written
-pub u32_at-packed_bytes : (k : ℕ) (p : Packing) → IsPacking 4 p → k < length p.entries → u32_at (packed_bytes 4 p) (64 + 4 * k) ≡ slice_index (numbers p) k
+pub u32_at-packed_bytes : (k : ℕ) (p : Packing) → IsPacking 4 p → k < length p.entries
+    → u32_at (packed_bytes 4 p) (64 + 4 * k) ≡ slice_index (numbers p) k
 u32_at-packed_bytes k p fits h =
     let reads = packing_of-packed_bytes 4 p fits in
     let counted : u32_at (packed_bytes 4 p) 8 ≡ length p.entries =

@@ -63,7 +63,8 @@ touches-at (d ∷ es) zero e is = let same : d ≡ e = cc in let one = same_fiel
 touches-at (d ∷ es) (suc k) e is =
     elim (same_field d.field e.field) as (λ b. (b || touches es e.field) ≡ true) [ true ↦ refl | false ↦ touches-at es k e is ]
 
-pub untouched : (es : List Edit) (k : ℕ) (e : Edit) (x : Field) → touches es x ≡ false → slice_get es k ≡ Some e → same_field e.field x ≡ false
+pub untouched : (es : List Edit) (k : ℕ) (e : Edit) (x : Field) → touches es x ≡ false → slice_get es k ≡ Some e
+    → same_field e.field x ≡ false
 untouched [] k e x h is = absurd cc
 untouched (d ∷ es) zero e x h is = let same : d ≡ e = cc in subst (λ (c : Edit). same_field c.field x ≡ false) same (neither (same_field d.field x) (touches es x) h).0
 untouched (d ∷ es) (suc k) e x h is = untouched es k e x (neither (same_field d.field x) (touches es x) h).1 is

@@ -1,10 +1,10 @@
 -- A journal block that spells a record reads as the record's key and edits.
 use Rattle.std.proofs.Common.{◌≡◌, ◌<◌, ◌≤◌, ◌+◌, ◌-◌, ◌*◌, ◌^◌, ℕ, zero, suc, List, [], ◌∷◌, ◌++◌, Some, length, map, refl, sym, ap, ◌∙◌, arith, append-nil, append_assoc, length-append, mul-le-mul, subst, ◌==◌, true, false, if◌then◌else◌}
-use Rattle.std.specs.Prelude.{All, codes, slice_get}
+use Rattle.std.specs.Prelude.{codes, slice_get}
 use Rattle.std.specs.List.{flat_map, range_with_len}
 use Rattle.std.proofs.lemmas.Option.{get_or_from_slice_get, slice_get_within}
-use Rattle.vol_base.specs.Bytes.{bytes_of, number_at, u32_at, u64_at, zeros}
-use Rattle.vol_base.specs.laws.BytesLaws.{length-bytes_of, length-zeros, more_zeros, no_number, number_at-append, number_at-last, number_at-written}
+use Rattle.vol_base.specs.Bytes.{bytes_of, u32_at, u64_at, zeros}
+use Rattle.vol_base.specs.laws.BytesLaws.{length-bytes_of, length-zeros, more_zeros, no_number, number_at-append, number_at-written}
 use Rattle.vol_base.specs.laws.RowLaws.{number_at-row, length-row}
 use Rattle.vol_layout.specs.declared.geometry.Geometry.{Geometry}
 use Rattle.vol_layout.specs.declared.field.Field.{Field}
@@ -12,7 +12,7 @@ use Rattle.vol_layout.specs.declared.field.Field.TheVariants.{Head, Pointer, Slo
 use Rattle.vol_layout.specs.declared.field.Edit.{Edit}
 use Rattle.vol_layout.specs.Ranges.{IsGeometry, arena_slots, data_blocks, limit, per_table}
 use Rattle.vol_layout.specs.Fields.{HasField, IsInRange, greatest_count}
-use Rattle.vol_layout.specs.Edits.{AreEdits, IsEdit, first, second, tag}
+use Rattle.vol_layout.specs.Edits.{IsEdit, first, second, tag}
 use Rattle.vol_layout.specs.laws.EditLaws.{field_from-numbers}
 use Rattle.vol_layout.specs.Journal.{SpellsJournal, edit_at, edit_bytes, edits_of, field_from, journal_bytes, journal_key}
 
@@ -46,7 +46,8 @@ pub record FourNumbers (es : List Edit) (k : ℕ) (e : Edit) : Type 0 where
   pub second_is : slice_get (edit_numbers es) (4 * k + 2) ≡ Some (second e.field)
   pub number_is : slice_get (edit_numbers es) (4 * k + 3) ≡ Some e.number
 
-skip_four : (es : List Edit) (e : Edit) (k j i n : ℕ) → i ≡ 4 * suc k + j → slice_get (edit_numbers es) (4 * k + j) ≡ Some n → slice_get (edit_numbers (e ∷ es)) i ≡ Some n
+skip_four : (es : List Edit) (e : Edit) (k j i n : ℕ) → i ≡ 4 * suc k + j → slice_get (edit_numbers es) (4 * k + j) ≡ Some n
+    → slice_get (edit_numbers (e ∷ es)) i ≡ Some n
 skip_four es e k j i n is h =
     let more : i ≡ suc (suc (suc (suc (4 * k + j)))) = omega arith in rw more h
 
@@ -91,23 +92,27 @@ header-key key n rest small =
     ∙ number_at-written 8 key 16 (codes "DEDEJRNL" ++ bytes_of 4 n ++ zeros 4) (zeros 40) (omega (arith, to_count n)) small
 
 -- the bytes behind the header
-behind : (key : ℕ) (es : List Edit) → journal_bytes key es ≡ journal_header key (length es) ++ (flat_map edit_bytes es ++ zeros (4032 - 16 * length es))
+behind : (key : ℕ) (es : List Edit)
+    → journal_bytes key es ≡ journal_header key (length es) ++ (flat_map edit_bytes es ++ zeros (4032 - 16 * length es))
 unfolding journal_bytes
 behind key es = append_assoc (journal_header key (length es)) (flat_map edit_bytes es) (zeros (4032 - 16 * length es))
 
-pub journal_count-spelled : (g : Geometry) (bytes : List ℕ) (key : ℕ) (es : List Edit) → SpellsJournal g bytes key es → u32_at bytes 8 ≡ length es
+pub journal_count-spelled : (g : Geometry) (bytes : List ℕ) (key : ℕ) (es : List Edit) → SpellsJournal g bytes key es
+    → u32_at bytes 8 ≡ length es
 journal_count-spelled g bytes key es h =
     ap (λ (xs : List ℕ). u32_at xs 8) (h.spelled ∙ behind key es)
     ∙ header-count key (length es) (flat_map edit_bytes es ++ zeros (4032 - 16 * length es)) (omega (arith, h.edits.few))
 
 -- the key of a spelled record
-pub journal_key-spelled : (g : Geometry) (bytes : List ℕ) (key : ℕ) (es : List Edit) → SpellsJournal g bytes key es → journal_key bytes ≡ key
+pub journal_key-spelled : (g : Geometry) (bytes : List ℕ) (key : ℕ) (es : List Edit) → SpellsJournal g bytes key es
+    → journal_key bytes ≡ key
 journal_key-spelled g bytes key es h =
     ap (λ (xs : List ℕ). u64_at xs 16) (h.spelled ∙ behind key es)
     ∙ header-key key (length es) (flat_map edit_bytes es ++ zeros (4032 - 16 * length es)) (omega (arith, h.width))
 
 -- number j of the edits
-number_in : (key : ℕ) (es : List Edit) (j at n : ℕ) → slice_get (edit_numbers es) j ≡ Some n → n < 256 ^ 4 → at ≡ 64 + 4 * j → u32_at (journal_bytes key es) at ≡ n
+number_in : (key : ℕ) (es : List Edit) (j at n : ℕ) → slice_get (edit_numbers es) j ≡ Some n → n < 256 ^ 4 → at ≡ 64 + 4 * j
+    → u32_at (journal_bytes key es) at ≡ n
 unfolding journal_bytes
 number_in key es j at n is small there =
     ap (λ (xs : List ℕ). u32_at (journal_header key (length es) ++ xs ++ zeros (4032 - 16 * length es)) at) (edits_row es)
@@ -126,7 +131,8 @@ greatest_fits g h =
     let tables : g.files * g.tables ≤ 64 * 16 = mul-le-mul h.files.1 h.tables.1 in
     elim (g.tables == 1) as (λ b. (if b then 80640 else per_table * (g.files * g.tables + g.parts)) < 256 ^ 4) [ true ↦ omega arith | false ↦ omega (arith, h.parts.1) ]
 
-narrow : (g : Geometry) (x : Field) (n : ℕ) → IsGeometry g → HasField g x → IsInRange g x n → IsNarrow (let e : Edit = record { field = x; number = n } in e)
+narrow : (g : Geometry) (x : Field) (n : ℕ) → IsGeometry g → HasField g x → IsInRange g x n
+    → IsNarrow (let e : Edit = record { field = x; number = n } in e)
 unfolding limit per_table data_blocks arena_slots
 narrow g (Head f) n h has range = record { tag_fits = omega arith; first_fits = omega (arith, h.files.1); second_fits = omega arith; number_fits = omega (arith, h.tables.1, range) }
 narrow g (Pointer f i) n h has range = record { tag_fits = omega arith; first_fits = omega (arith, h.files.1, has.0); second_fits = omega (arith, h.tables.1, has.1); number_fits = omega (arith, range.width) }
@@ -134,7 +140,8 @@ narrow g (Slot s) n h has range = record { tag_fits = omega arith; first_fits = 
 narrow g (Count d) n h has range = record { tag_fits = omega arith; first_fits = omega (arith, h.groups.1, has); second_fits = omega arith; number_fits = omega (arith, greatest_fits g h, range) }
 
 -- an edit is what its four numbers say
-from_numbers : (e : Edit) (t a b n : ℕ) → t ≡ tag e.field → a ≡ first e.field → b ≡ second e.field → n ≡ e.number → (let d : Edit = record { field = field_from t a b; number = n } in d) ≡ e
+from_numbers : (e : Edit) (t a b n : ℕ) → t ≡ tag e.field → a ≡ first e.field → b ≡ second e.field → n ≡ e.number
+    → (let d : Edit = record { field = field_from t a b; number = n } in d) ≡ e
 from_numbers e t a b n t_is a_is b_is n_is =
     let field_is : field_from t a b ≡ e.field =
     ap (λ (m : ℕ). field_from m a b) t_is ∙ ap (λ (m : ℕ). field_from (tag e.field) m b) a_is
@@ -143,7 +150,8 @@ from_numbers e t a b n t_is a_is b_is n_is =
     ∙ ap (λ (m : ℕ). let d : Edit = record { field = e.field; number = m } in d) n_is
 
 -- edit k of a spelled record stands at byte 64 + 16 k
-pub edit_at-spelled : (g : Geometry) (bytes : List ℕ) (key : ℕ) (es : List Edit) (k : ℕ) (e : Edit) → IsGeometry g → SpellsJournal g bytes key es
+pub edit_at-spelled : (g : Geometry) (bytes : List ℕ) (key : ℕ) (es : List Edit) (k : ℕ) (e : Edit) → IsGeometry g
+    → SpellsJournal g bytes key es
     → slice_get es k ≡ Some e → edit_at bytes (64 + 16 * k) ≡ e
 edit_at-spelled g bytes key es k e geometry h is =
     let f = four_numbers es k e is in
@@ -155,7 +163,8 @@ edit_at-spelled g bytes key es k e geometry h is =
     let number_is = ap (λ (xs : List ℕ). u32_at xs (64 + 16 * k + 12)) h.spelled ∙ number_in key es (4 * k + 3) (64 + 16 * k + 12) e.number f.number_is small.number_fits (omega arith) in
     from_numbers e (u32_at bytes (64 + 16 * k)) (u32_at bytes (64 + 16 * k + 4)) (u32_at bytes (64 + 16 * k + 8)) (u32_at bytes (64 + 16 * k + 12)) tag_is first_is second_is number_is
 
-rebuilt : (f : ℕ → Edit) (i : ℕ) (es : List Edit) → ((k : ℕ) (e : Edit) → slice_get es k ≡ Some e → f (i + k) ≡ e) → map f (range_with_len i (length es)) ≡ es
+rebuilt : (f : ℕ → Edit) (i : ℕ) (es : List Edit) → ((k : ℕ) (e : Edit) → slice_get es k ≡ Some e → f (i + k) ≡ e)
+    → map f (range_with_len i (length es)) ≡ es
 rebuilt f i [] h = refl
 rebuilt f i (e ∷ es) h =
     let here : f i ≡ e = let none : i + 0 ≡ i = omega arith in ap f (sym none) ∙ h 0 e refl in
@@ -163,13 +172,15 @@ rebuilt f i (e ∷ es) h =
     ap (λ (x : Edit). x ∷ map f (range_with_len (i + 1) (length es))) here ∙ ap (λ (xs : List Edit). e ∷ xs) rest
 
 -- the edits of a spelled record
-pub edits_of-spelled : (g : Geometry) (bytes : List ℕ) (key : ℕ) (es : List Edit) → IsGeometry g → SpellsJournal g bytes key es → edits_of bytes ≡ es
+pub edits_of-spelled : (g : Geometry) (bytes : List ℕ) (key : ℕ) (es : List Edit) → IsGeometry g → SpellsJournal g bytes key es
+    → edits_of bytes ≡ es
 unfolding edits_of
 edits_of-spelled g bytes key es geometry h =
     ap (λ (n : ℕ). map (λ k. edit_at bytes (64 + 16 * k)) (range_with_len 0 n)) (journal_count-spelled g bytes key es h)
     ∙ rebuilt (λ k. edit_at bytes (64 + 16 * k)) 0 es (λ k e is. let same : 0 + k ≡ k = omega arith in ap (λ (j : ℕ). edit_at bytes (64 + 16 * j)) same ∙ edit_at-spelled g bytes key es k e geometry h is)
 
-empty_header : (front four eight : List ℕ) → four ≡ zeros 4 → eight ≡ zeros 8 → front ++ four ++ zeros 4 ++ eight ++ zeros 40 ≡ front ++ zeros 56
+empty_header : (front four eight : List ℕ) → four ≡ zeros 4 → eight ≡ zeros 8
+    → front ++ four ++ zeros 4 ++ eight ++ zeros 40 ≡ front ++ zeros 56
 empty_header front four eight f e =
     rw (f, e, more_zeros front (zeros 4) 4 4 8 refl refl, more_zeros front (zeros 8) 8 8 16 refl refl) (more_zeros front (zeros 40) 16 40 56 refl refl)
 

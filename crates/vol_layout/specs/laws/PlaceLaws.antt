@@ -96,10 +96,12 @@ places_apart g j k hj hk e =
     let c : kind_at g (place_of g j) ≡ kind_at g (place_of g k) = ap (kind_at g) e in cc
 
 -- what stands at a place, from what was found there
-pub found_kind : (g : Geometry) (p : ℕ) (r : Option Kind) → IfSome r (λ k. HasKind g k × (place_of g k ≡ p)) → IfNone r (total g ≤ p) → r ≡ kind_at g p
+pub found_kind : (g : Geometry) (p : ℕ) (r : Option Kind) → IfSome r (λ k. HasKind g k × (place_of g k ≡ p)) → IfNone r (total g ≤ p)
+    → r ≡ kind_at g p
 found_kind g p (Some k) s n = let e = kind_at-place g k s.0 in sym (subst (λ (q : ℕ). kind_at g q ≡ Some k) s.1 e)
 found_kind g p None s n = sym (kind_at-none g p n)
 
-pub found_none : (g : Geometry) (p : ℕ) (r : Option Kind) → IfSome r (λ k. HasKind g k × (place_of g k ≡ p)) → IfNone r (total g ≤ p) → IsNone r ↔ (total g ≤ p)
+pub found_none : (g : Geometry) (p : ℕ) (r : Option Kind) → IfSome r (λ k. HasKind g k × (place_of g k ≡ p)) → IfNone r (total g ≤ p)
+    → IsNone r ↔ (total g ≤ p)
 found_none g p (Some k) s n = let below = place_of-inside g k s.0 in (λ h. cc, λ h. absurd (omega (arith, s.1)))
 found_none g p None s n = (λ h. n, λ h. refl)

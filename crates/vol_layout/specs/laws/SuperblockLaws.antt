@@ -1,5 +1,5 @@
 -- What a superblock reads as.
-use Rattle.std.proofs.Common.{◌≡◌, ◌≢◌, ◌≤◌, ◌+◌, ◌-◌, ◌*◌, ◌==◌, ℕ, true, false, List, [], ◌∷◌, ◌++◌, Some, length, get_or, take, if◌then◌else◌, refl, sym, ap, ◌∙◌, arith, append_assoc, length-append}
+use Rattle.std.proofs.Common.{◌≡◌, ◌≢◌, ◌≤◌, ◌+◌, ◌-◌, ◌*◌, ◌==◌, ℕ, true, false, List, ◌++◌, Some, length, get_or, take, if◌then◌else◌, refl, sym, ap, ◌∙◌, arith, append_assoc, length-append}
 use Rattle.std.specs.Prelude.{codes, slice_get}
 use Rattle.std.specs.List.{flat_map}
 use Rattle.std.proofs.lemmas.List.{take_at}
@@ -21,7 +21,8 @@ take-superblock g =
     ∙ take_at (volume_magic g) (flat_map (bytes_of 4) (written_numbers g) ++ zeros (4088 - 4 * length (written_numbers g))) 8 long
 
 -- number k of a superblock
-pub superblock-number : (g : Geometry) (k at n : ℕ) → slice_get (written_numbers g) k ≡ Some n → n ≤ 64 → at ≡ 8 + 4 * k → u32_at (superblock_bytes g) at ≡ n
+pub superblock-number : (g : Geometry) (k at n : ℕ) → slice_get (written_numbers g) k ≡ Some n → n ≤ 64 → at ≡ 8 + 4 * k
+    → u32_at (superblock_bytes g) at ≡ n
 unfolding superblock_bytes
 superblock-number g k at n is small e =
     number_at-row 4 k at (volume_magic g) (zeros (4088 - 4 * length (written_numbers g))) (written_numbers g) n is (omega arith)
@@ -58,17 +59,6 @@ single_magic g e =
     let is = sym (take-superblock g) ∙ e in
     elim (g.tables == 1) as (λ b. (g.tables == 1) ≡ b → (if b then codes "DEDEVOL1" else codes "DEDEVOL2") ≡ codes "DEDEVOL1" → g.tables ≡ 1)
     [ true ↦ (λ t m. grind (arith, nat_tests)) | false ↦ (λ t m. let last : get_or (codes "DEDEVOL2") 7 0 ≡ get_or (codes "DEDEVOL1") 7 0 = ap (λ (xs : List ℕ). get_or xs 7 0) m in absurd (omega (arith, last))) ] refl is
-
--- what is written for each version
-pub written_single : (g : Geometry) (draft : List ℕ) → g.tables ≡ 1
-    → draft ≡ codes "DEDEVOL1" ++ flat_map (bytes_of 4) (g.hosts ∷ g.files ∷ g.groups ∷ g.parts ∷ g.shards ∷ g.logs ∷ [])
-    → draft ≡ volume_magic g ++ flat_map (bytes_of 4) (written_numbers g)
-written_single g draft one e = let is : (g.tables == 1) ≡ true = grind (arith, nat_tests) in rw is e
-
-pub written_many : (g : Geometry) (draft : List ℕ) → g.tables ≢ 1
-    → draft ≡ codes "DEDEVOL2" ++ flat_map (bytes_of 4) (g.hosts ∷ g.files ∷ g.groups ∷ g.parts ∷ g.shards ∷ g.logs ∷ g.tables ∷ [])
-    → draft ≡ volume_magic g ++ flat_map (bytes_of 4) (written_numbers g)
-written_many g draft many e = let other : (g.tables == 1) ≡ false = grind (arith, nat_tests) in rw other e
 
 -- the zeros behind what is written
 pub padded_superblock : (g : Geometry) (draft : List ℕ) → draft ≡ volume_magic g ++ flat_map (bytes_of 4) (written_numbers g)

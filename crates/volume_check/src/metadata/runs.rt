@@ -5,7 +5,8 @@ ghost use Rattle.shared_disk.specs.State.{Stands};
 ghost use Rattle.vol_base.specs.Faults.{Rose};
 ghost use Rattle.vol_layout.specs.Ranges.{IsGeometry};
 ghost use Rattle.vol_layout.specs.Regions.{total};
-ghost use Rattle.volume_check.specs.Metadatas.{AreRuns, IsRead, front_end, further_start, further_tables, image_of_runs};
+ghost use Rattle.vol_layout.specs.Places.{front_end, further_start, further_tables};
+ghost use Rattle.volume_check.specs.Metadatas.{AreRuns, IsInRuns, image_of_runs};
 ghost use Rattle.volume_check.specs.declared.metadata.ReadNo.TheVariants as reads;
 
 use crate::metadata::ReadNo;
@@ -42,7 +43,7 @@ pub fn block_in<'a>(
     place: u64,
 ) -> &'a Block
     requires runs { AreRuns geometry.now front.now further.now }
-    requires read { IsRead geometry.now place }
+    requires read { IsInRuns geometry.now place }
     ensures { result.now.0 ≡ slice_index_or (image_of_runs geometry.now front.now further.now) place [] }
 {
     let place = place as usize;

@@ -18,7 +18,7 @@ use Rattle.vol_layout.specs.Journal.{edits_of}
 use Rattle.vol_layout.specs.Ranges.{HasKind, HasResource, data_blocks}
 use Rattle.image_view.specs.Balances.{share}
 use Rattle.image_view.specs.laws.FrameLaws.{HasResource-resource_of, HasTable-table_of}
-use Rattle.image_view.specs.Held.{HoldsField}
+use Rattle.image_view.specs.Held.{CountsEdit, HoldsField}
 use Rattle.image_view.specs.HostKeys.{journal_key_at, lock_key_at, lock_state_at, slot_key_at}
 use Rattle.image_view.specs.Images.{Image, block_at}
 use Rattle.image_view.specs.Mappings.{mappings, uses}
@@ -26,7 +26,7 @@ use Rattle.image_view.specs.Numbers.{field, journal, logical, standing}
 use Rattle.image_view.specs.Usages.{usage_in, used_numbers}
 use Rattle.image_view.specs.laws.UseLaws.{length-mappings, names_one, sum_by_references_same, uses-sum_by}
 use Rattle.volume_faults.specs.declared.fault.Fault.{Fault}
-use Rattle.volume_faults.specs.Sites.{HasCounts, HasSite, IsChecked, IsOfKind, IsRight, Site, fault_at, stage_of}
+use Rattle.volume_faults.specs.Sites.{HasSite, IsChecked, IsOfKind, IsRight, Site, fault_at, stage_of}
 use Rattle.volume_faults.specs.Sites.Site.{Superblock, Size, Block, LockKey, RecordKey, RecordEdit, CountOf, PointerOf}
 use Rattle.volume_faults.specs.Lists.{IsFaultOf, Lists}
 use Rattle.volume_faults.specs.Faults.{AreOfFirst, AreTableFaults, IsOfStage, IsPassed}
@@ -55,7 +55,8 @@ pub slot_key_same : (g : Geometry) (a b : Image) → Agrees g a b → (h : ℕ) 
 unfolding slot_key_at
 slot_key_same g a b agrees h below = ap (λ (block : List ℕ). u64_at block 16) (agrees (kinds.Slot h) below tt)
 
-pub lock_state_same : (g : Geometry) (a b : Image) → Agrees g a b → (r : Resource) → HasResource g r → lock_state_at g a r ≡ lock_state_at g b r
+pub lock_state_same : (g : Geometry) (a b : Image) → Agrees g a b → (r : Resource) → HasResource g r
+    → lock_state_at g a r ≡ lock_state_at g b r
 unfolding lock_state_at
 lock_state_same g a b agrees r has = ap (λ (block : List ℕ). u32_at block 8) (agrees (kinds.Lock r) has tt)
 
@@ -64,7 +65,8 @@ unfolding lock_key_at
 lock_key_same g a b agrees r has = ap (λ (block : List ℕ). u64_at block 16) (agrees (kinds.Lock r) has tt)
 
 -- lists of edits that are equal for each number of a range
-joined_same : (f f' : ℕ → List Edit) (a n m : ℕ) → a + n ≤ m → ((h : ℕ) → h < m → f h ≡ f' h) → flat_map f (range_with_len a n) ≡ flat_map f' (range_with_len a n)
+joined_same : (f f' : ℕ → List Edit) (a n m : ℕ) → a + n ≤ m → ((h : ℕ) → h < m → f h ≡ f' h)
+    → flat_map f (range_with_len a n) ≡ flat_map f' (range_with_len a n)
 joined_same f f' a zero m le same = refl
 joined_same f f' a (suc n) m le same =
     let first = same a (omega arith) in
@@ -95,7 +97,8 @@ mapped_same g a b agrees =
     ∙ sym (length-mappings g b)
 
 -- sums over a range of terms that are equal there
-sums_same : (w w' : ℕ → ℕ) (a n m : ℕ) → a + n ≤ m → ((k : ℕ) → k < m → w k ≡ w' k) → sum_by w (range_with_len a n) ≡ sum_by w' (range_with_len a n)
+sums_same : (w w' : ℕ → ℕ) (a n m : ℕ) → a + n ≤ m → ((k : ℕ) → k < m → w k ≡ w' k)
+    → sum_by w (range_with_len a n) ≡ sum_by w' (range_with_len a n)
 sums_same w w' a zero m le same = refl
 sums_same w w' a (suc n) m le same =
     rw (sum_by-cons w a (range_with_len (a + 1) n), sum_by-cons w' a (range_with_len (a + 1) n), same a (omega arith), sums_same w w' (a + 1) n m (omega arith) same) refl
@@ -131,15 +134,17 @@ HoldsField_kept g a b agrees key x holds =
       },
     )
 
-HasCounts_kept : (g : Geometry) (a b : Image) → Agrees g a b → (h : ℕ) (e : Edit) → h < g.hosts → HasField g e.field → HasCounts g a h e → HasCounts g b h e
-HasCounts_kept g a b agrees h e below has counts s d is names =
+CountsEdit_kept : (g : Geometry) (a b : Image) → Agrees g a b → (h : ℕ) (e : Edit) → h < g.hosts → HasField g e.field
+    → CountsEdit g a (journal g a h) e → CountsEdit g b (journal g b h) e
+CountsEdit_kept g a b agrees h e below has counts s d is names =
     let has_slot : HasField g (Slot s) = subst (HasField g) is has in
     let number = field_same g a b agrees (Slot s) has_slot in
     let edits = journal_same g a b agrees h below in
     sym (ap (λ es. touches es (Count d)) edits) ∙ counts s d is (rw number names)
 
 -- what is right there stays right
-IsRight_kept : (g : Geometry) (counter : ℕ) (a b : Image) → Agrees g a b → (site : Site) → 2 ≤ stage_of site → HasSite g a site → IsRight g counter a site → IsRight g counter b site
+IsRight_kept : (g : Geometry) (counter : ℕ) (a b : Image) → Agrees g a b → (site : Site) → 2 ≤ stage_of site → HasSite g a site
+    → IsRight g counter a site → IsRight g counter b site
 IsRight_kept g counter a b agrees Superblock later has right = absurd (omega (arith, later))
 IsRight_kept g counter a b agrees Size later has right = absurd (omega (arith, later))
 IsRight_kept g counter a b agrees (Block kind) later has right = subst (IsOfKind g counter kind) (agrees kind has.0 has.1) right
@@ -153,7 +158,7 @@ IsRight_kept g counter a b agrees (RecordEdit h k) later has right =
     λ e at.
     let was = right e (ap (λ es. slice_get es k) (journal_same g a b agrees h has.0) ∙ at) in (
       rw (sym (journal_key_same g a b agrees h has.0)) (HoldsField_kept g a b agrees (journal_key_at g a h) e.field was.0),
-      HasCounts_kept g a b agrees h e has.0 was.0.0 was.1,
+      CountsEdit_kept g a b agrees h e has.0 was.0.0 was.1,
     )
 IsRight_kept g counter a b agrees (CountOf d) later has right = sym (logical_same g a b agrees (Count d) has) ∙ right ∙ uses_same g a b agrees d
 IsRight_kept g counter a b agrees (PointerOf f i) later has right =
@@ -161,7 +166,8 @@ IsRight_kept g counter a b agrees (PointerOf f i) later has right =
     λ unmarked. rw (sym number, sym (uses_same g a b agrees (logical g a (Pointer f i) - 1))) (right (rw number unmarked))
 
 -- and where it is not, the same fault is listed
-fault_same : (g : Geometry) (a b : Image) → Agrees g a b → (site : Site) → 2 ≤ stage_of site → HasSite g a site → fault_at g a site ≡ fault_at g b site
+fault_same : (g : Geometry) (a b : Image) → Agrees g a b → (site : Site) → 2 ≤ stage_of site → HasSite g a site
+    → fault_at g a site ≡ fault_at g b site
 fault_same g a b agrees Superblock later has = absurd (omega (arith, later))
 fault_same g a b agrees Size later has = absurd (omega (arith, later))
 fault_same g a b agrees (Block kind) later has = refl
@@ -174,11 +180,13 @@ fault_same g a b agrees (PointerOf f i) later has = refl
 later_stage : (g : Geometry) (a : Image) (stage : ℕ) (s : Site) → 2 ≤ stage → IsOfStage g a stage s → 2 ≤ stage_of s
 later_stage g a stage s later is = let same = is.0 in omega (arith, same)
 
-IsOfStage_kept : (g : Geometry) (a b : Image) → Agrees g a b → (stage : ℕ) (site : Site) → 2 ≤ stage → IsOfStage g a stage site → IsOfStage g b stage site
+IsOfStage_kept : (g : Geometry) (a b : Image) → Agrees g a b → (stage : ℕ) (site : Site) → 2 ≤ stage → IsOfStage g a stage site
+    → IsOfStage g b stage site
 IsOfStage_kept g a b agrees stage site later is = (is.0, HasSite_kept g a b agrees site (later_stage g a stage site later is) is.1)
 
 -- a stage behind the first has the same faults, and is passed alike
-Lists_kept : (g : Geometry) (counter : ℕ) (a b : Image) → Agrees g a b → (stage : ℕ) (xs : List Fault) → 2 ≤ stage → Lists (IsOfStage g a stage) g counter a xs → Lists (IsOfStage g b stage) g counter b xs
+Lists_kept : (g : Geometry) (counter : ℕ) (a b : Image) → Agrees g a b → (stage : ℕ) (xs : List Fault) → 2 ≤ stage
+    → Lists (IsOfStage g a stage) g counter a xs → Lists (IsOfStage g b stage) g counter b xs
 Lists_kept g counter a b agrees stage xs later lists =
     let back = Agrees-sym g a b agrees in
     record {
@@ -205,7 +213,8 @@ Lists_kept g counter a b agrees stage xs later lists =
     }
 
 -- and so is what is passed
-pub IsPassed_kept : (g : Geometry) (counter : ℕ) (a b : Image) → Agrees g a b → (stage : ℕ) → 2 ≤ stage → IsPassed g counter a stage → IsPassed g counter b stage
+pub IsPassed_kept : (g : Geometry) (counter : ℕ) (a b : Image) → Agrees g a b → (stage : ℕ) → 2 ≤ stage → IsPassed g counter a stage
+    → IsPassed g counter b stage
 IsPassed_kept g counter a b agrees stage later passed site is =
     let was = IsOfStage_kept g b a (Agrees-sym g a b agrees) stage site later is in
     IsRight_kept g counter a b agrees site (later_stage g b stage site later is) was.1 (passed site was)
@@ -220,7 +229,8 @@ AreOfFirst_kept g counter a b agrees stage stages xs later rest are =
     ]
 
 -- the same faults of the stages behind the first
-pub table_faults_same : (g : Geometry) (counter : ℕ) (a b : Image) (xs : List Fault) → Agrees g a b → AreTableFaults g counter a xs → AreTableFaults g counter b xs
+pub table_faults_same : (g : Geometry) (counter : ℕ) (a b : Image) (xs : List Fault) → Agrees g a b → AreTableFaults g counter a xs
+    → AreTableFaults g counter b xs
 unfolding AreTableFaults
 table_faults_same g counter a b xs agrees are =
     AreOfFirst_kept g counter a b agrees 2 (3 ∷ 4 ∷ []) xs (omega arith)

@@ -1,5 +1,5 @@
 -- How lists of faults grow, and what they say of a stage.
-use Rattle.std.proofs.Common.{◌≡◌, ◌≢◌, ◌⊎◌, ℕ, List, [], ◌∷◌, ◌++◌, refl, sym, ap, ◌∙◌, inl, inr, append-nil, append_assoc, arith}
+use Rattle.std.proofs.Common.{◌≡◌, ◌⊎◌, ℕ, List, [], ◌∷◌, ◌++◌, refl, sym, ap, ◌∙◌, inl, inr, append-nil, append_assoc, arith}
 use Rattle.std.specs.Prelude.{All, Contains}
 use Rattle.std.proofs.lemmas.List.Elements.{All-append, All-cons, All-head, All-nil, All-tail, All-weaker, Contains-append_left, Contains-append_right, Contains-push}
 use Rattle.vol_layout.specs.declared.geometry.Geometry.{Geometry}
@@ -11,7 +11,8 @@ use Rattle.volume_faults.specs.Lists.{Adds, IsFaultOf, Lists}
 use Rattle.volume_faults.specs.Faults.{AreOfFirst, IsOfStage, IsPassed}
 
 -- two lists in order, each of the first before each of the second
-AreInOrder-append : (xs ys : List Fault) → AreInOrder xs → AreInOrder ys → All (λ x. All (λ y. ComesBefore x y) ys) xs → AreInOrder (xs ++ ys)
+AreInOrder-append : (xs ys : List Fault) → AreInOrder xs → AreInOrder ys → All (λ x. All (λ y. ComesBefore x y) ys) xs
+    → AreInOrder (xs ++ ys)
 AreInOrder-append [] ys first second apart = second
 AreInOrder-append (x ∷ xs) ys first second apart = (
   All-append (λ y. ComesBefore x y) xs ys first.0 (All-head (λ z. All (λ y. ComesBefore z y) ys) x xs apart),
@@ -24,7 +25,8 @@ IsFaultOf-more : (A B : Site → Type 0) (g : Geometry) (counter : ℕ) (image :
 IsFaultOf-more A B g counter image in_more fault of = record { site = of.site; among = in_more of.site of.among; wrong = of.wrong; is = of.is }
 
 -- where all is right there is no fault
-pub Lists-right : (Among : Site → Type 0) (g : Geometry) (counter : ℕ) (image : Image) → ((site : Site) → Among site → IsRight g counter image site)
+pub Lists-right : (Among : Site → Type 0) (g : Geometry) (counter : ℕ) (image : Image)
+    → ((site : Site) → Among site → IsRight g counter image site)
     → Lists Among g counter image []
 Lists-right Among g counter image right = record {
   each = All-nil (IsFaultOf Among g counter image);
@@ -33,7 +35,8 @@ Lists-right Among g counter image right = record {
 }
 
 -- of one site that is wrong there is its fault
-pub Lists-wrong : (Among : Site → Type 0) (g : Geometry) (counter : ℕ) (image : Image) (site : Site) → Among site → ((other : Site) → Among other → other ≡ site)
+pub Lists-wrong : (Among : Site → Type 0) (g : Geometry) (counter : ℕ) (image : Image) (site : Site) → Among site
+    → ((other : Site) → Among other → other ≡ site)
     → (IsRight g counter image site → ⊥) → Lists Among g counter image (fault_at g image site ∷ [])
 Lists-wrong Among g counter image site among only wrong =
     let fault = fault_at g image site in
@@ -74,7 +77,8 @@ Lists-joined A B C g counter image xs ys first second cases from_first from_seco
 }
 
 -- the same sites have the same list
-pub Lists-same : (A B : Site → Type 0) (g : Geometry) (counter : ℕ) (image : Image) (faults : List Fault) → ((site : Site) → A site → B site) → ((site : Site) → B site → A site)
+pub Lists-same : (A B : Site → Type 0) (g : Geometry) (counter : ℕ) (image : Image) (faults : List Fault)
+    → ((site : Site) → A site → B site) → ((site : Site) → B site → A site)
     → Lists A g counter image faults → Lists B g counter image faults
 Lists-same A B g counter image faults to from lists = record {
   each = All-weaker (IsFaultOf A g counter image) (IsFaultOf B g counter image) (IsFaultOf-more A B g counter image to) faults lists.each;
@@ -108,31 +112,24 @@ Adds-joined A B C g counter image a b c first second cases from_first from_secon
 }
 
 -- the same sites add the same faults
-pub Adds-same : (A B : Site → Type 0) (g : Geometry) (counter : ℕ) (image : Image) (a b : List Fault) → ((site : Site) → A site → B site) → ((site : Site) → B site → A site)
+pub Adds-same : (A B : Site → Type 0) (g : Geometry) (counter : ℕ) (image : Image) (a b : List Fault) → ((site : Site) → A site → B site)
+    → ((site : Site) → B site → A site)
     → Adds A g counter image a b → Adds B g counter image a b
 Adds-same A B g counter image a b to from adds = record { more = adds.more; added = adds.added; lists = Lists-same A B g counter image adds.more to from adds.lists }
 
 -- what a list that was empty grew by is the list
-pub Adds-lists : (Among : Site → Type 0) (g : Geometry) (counter : ℕ) (image : Image) (faults : List Fault) → Adds Among g counter image [] faults → Lists Among g counter image faults
+pub Adds-lists : (Among : Site → Type 0) (g : Geometry) (counter : ℕ) (image : Image) (faults : List Fault)
+    → Adds Among g counter image [] faults → Lists Among g counter image faults
 Adds-lists Among g counter image faults adds = rw (adds.added) adds.lists
 
 -- a stage without a fault is passed
-pub passed_without_fault : (g : Geometry) (counter : ℕ) (image : Image) (stage : ℕ) → Lists (IsOfStage g image stage) g counter image [] → IsPassed g counter image stage
+pub passed_without_fault : (g : Geometry) (counter : ℕ) (image : Image) (stage : ℕ) → Lists (IsOfStage g image stage) g counter image []
+    → IsPassed g counter image stage
 passed_without_fault g counter image stage lists site is =
     elim (lists.whole site is) [
       | inl right ↦ right
       | inr listed ↦ let none = listed.1 in absurd (omega (arith, none))
     ]
-
--- the first stage has faults
-pub first_listed : (stage : ℕ) (stages : List ℕ) (g : Geometry) (counter : ℕ) (image : Image) (faults : List Fault)
-    → faults ≢ [] → Lists (IsOfStage g image stage) g counter image faults → AreOfFirst (stage ∷ stages) g counter image faults
-first_listed stage stages g counter image faults some lists = inl (some, lists)
-
--- the first stage is passed
-pub first_passed : (stage : ℕ) (stages : List ℕ) (g : Geometry) (counter : ℕ) (image : Image) (faults : List Fault)
-    → IsPassed g counter image stage → AreOfFirst stages g counter image faults → AreOfFirst (stage ∷ stages) g counter image faults
-first_passed stage stages g counter image faults passed rest = inr (passed, rest)
 
 -- each stage is passed
 pub all_passed : (g : Geometry) (counter : ℕ) (image : Image) → AreOfFirst [] g counter image []

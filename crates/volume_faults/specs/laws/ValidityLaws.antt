@@ -84,12 +84,14 @@ first_of_field (f ∷ es) x touched =
     ]
 
 -- each site of a valid volume is right
-numbers_right : (g : Geometry) (counter : ℕ) (image : Image) (t : Table) → IsValid g counter image → HasNumbers g t (block_at g image (kinds.Table t))
+numbers_right : (g : Geometry) (counter : ℕ) (image : Image) (t : Table) → IsValid g counter image
+    → HasNumbers g t (block_at g image (kinds.Table t))
 unfolding field
 numbers_right g counter image t valid x has at =
     subst (λ t. IsInRange g x (u32_at (block_at g image (kinds.Table t)) (byte_of x))) at (valid.numbers x has)
 
-block_right : (g : Geometry) (counter : ℕ) (image : Image) (kind : Kind) → IsValid g counter image → HasKind g kind → IsChecked kind → IsOfKind g counter kind (block_at g image kind)
+block_right : (g : Geometry) (counter : ℕ) (image : Image) (kind : Kind) → IsValid g counter image → HasKind g kind → IsChecked kind
+    → IsOfKind g counter kind (block_at g image kind)
 block_right g counter image kinds.Super valid has checked = absurd checked
 block_right g counter image (kinds.Slot h) valid has checked = valid.slots h has
 block_right g counter image (kinds.Journal h) valid has checked = valid.journals h has
@@ -104,7 +106,8 @@ apart_edits : (g : Geometry) (counter : ℕ) (image : Image) (h : ℕ) → IsVal
 unfolding journal
 apart_edits g counter image h valid below = (valid.journals h below).spelled.edits.apart
 
-site_right : (g : Geometry) (counter : ℕ) (image : Image) → IsValid g counter image → (site : Site) → HasSite g image site → IsRight g counter image site
+site_right : (g : Geometry) (counter : ℕ) (image : Image) → IsValid g counter image → (site : Site) → HasSite g image site
+    → IsRight g counter image site
 site_right g counter image valid Superblock has = valid.geometry
 site_right g counter image valid Size has = valid.long
 site_right g counter image valid (Block kind) has = block_right g counter image kind valid has.0 has.1
@@ -149,7 +152,8 @@ held_where_passed g counter image passed = record {
 }
 
 -- no fault in the stages behind the first: the volume is valid
-pub faultless_tables_are_valid : (g : Geometry) (counter : ℕ) (image : Image) → SpellsGeometry (first_block image) g → total g ≤ length image → AreTableFaults g counter image []
+pub faultless_tables_are_valid : (g : Geometry) (counter : ℕ) (image : Image) → SpellsGeometry (first_block image) g
+    → total g ≤ length image → AreTableFaults g counter image []
     → IsValid g counter image
 unfolding AreTableFaults field
 faultless_tables_are_valid g counter image spelled long are =
@@ -180,7 +184,8 @@ faultless_is_valid counter image are =
     let spelled = first.0 Superblock (refl, tt) in
     faultless_tables_are_valid g counter image spelled (first.0 Size (refl, spelled)) first.1
 
-none_where_right : (stages : List ℕ) (g : Geometry) (counter : ℕ) (image : Image) (xs : List Fault) → ((site : Site) → HasSite g image site → IsRight g counter image site)
+none_where_right : (stages : List ℕ) (g : Geometry) (counter : ℕ) (image : Image) (xs : List Fault)
+    → ((site : Site) → HasSite g image site → IsRight g counter image site)
     → AreOfFirst stages g counter image xs → xs ≡ []
 none_where_right [] g counter image xs right are = are
 none_where_right (stage ∷ stages) g counter image [] right are = refl
@@ -192,13 +197,6 @@ none_where_right (stage ∷ stages) g counter image (x ∷ xs) right are =
       | inr behind ↦ none_where_right stages g counter image (x ∷ xs) right behind.1
     ]
 
--- a valid volume has no fault
-pub valid_is_faultless : (counter : ℕ) (image : Image) → IsVolume counter image → AreFaults counter image []
-unfolding AreFaults
-valid_is_faultless counter image valid =
-    let passed = λ (stage : ℕ). all_passed (geometry_of image) counter image stage valid in
-    inr (passed 1, inr (passed 2, inr (passed 3, inr (passed 4, refl))))
-
 pub valid_has_no_fault : (counter : ℕ) (image : Image) (xs : List Fault) → IsVolume counter image → AreFaults counter image xs → xs ≡ []
 unfolding AreFaults
 valid_has_no_fault counter image xs valid are = none_where_right (1 ∷ 2 ∷ 3 ∷ 4 ∷ []) (geometry_of image) counter image xs (site_right (geometry_of image) counter image valid) are
@@ -209,12 +207,14 @@ valid_has_faultless_tables g counter image valid =
     let passed = λ (stage : ℕ). all_passed g counter image stage valid in
     inr (passed 2, inr (passed 3, inr (passed 4, refl)))
 
-pub valid_has_no_table_fault : (g : Geometry) (counter : ℕ) (image : Image) (xs : List Fault) → IsValid g counter image → AreTableFaults g counter image xs → xs ≡ []
+pub valid_has_no_table_fault : (g : Geometry) (counter : ℕ) (image : Image) (xs : List Fault) → IsValid g counter image
+    → AreTableFaults g counter image xs → xs ≡ []
 unfolding AreTableFaults
 valid_has_no_table_fault g counter image xs valid are = none_where_right (2 ∷ 3 ∷ 4 ∷ []) g counter image xs (site_right g counter image valid) are
 
 -- of the first stage are the superblock and the size
-first_stage_passed : (g : Geometry) (counter : ℕ) (image : Image) → SpellsGeometry (first_block image) g → total g ≤ length image → IsPassed g counter image 1
+first_stage_passed : (g : Geometry) (counter : ℕ) (image : Image) → SpellsGeometry (first_block image) g → total g ≤ length image
+    → IsPassed g counter image 1
 first_stage_passed g counter image spelled long Superblock is = spelled
 first_stage_passed g counter image spelled long Size is = long
 first_stage_passed g counter image spelled long (Block kind) is = let same = is.0 in absurd (omega (arith, same))
@@ -225,14 +225,16 @@ first_stage_passed g counter image spelled long (CountOf d) is = let same = is.0
 first_stage_passed g counter image spelled long (PointerOf f i) is = let same = is.0 in absurd (omega (arith, same))
 
 -- the faults of a volume whose superblock is right and which is whole are those of the stages behind the first
-pub table_faults_are_faults : (g : Geometry) (counter : ℕ) (image : Image) (xs : List Fault) → SpellsGeometry (first_block image) g → total g ≤ length image → AreTableFaults g counter image xs
+pub table_faults_are_faults : (g : Geometry) (counter : ℕ) (image : Image) (xs : List Fault) → SpellsGeometry (first_block image) g
+    → total g ≤ length image → AreTableFaults g counter image xs
     → AreFaults counter image xs
 unfolding AreFaults AreTableFaults
 table_faults_are_faults g counter image xs spelled long are =
     let P : Geometry → Type 0 = λ k. AreOfFirst (1 ∷ 2 ∷ 3 ∷ 4 ∷ []) k counter image xs in
     subst P (sym (geometry_of-spelled g image spelled)) (inr (first_stage_passed g counter image spelled long, are))
 
-only_superblock : (g : Geometry) (image : Image) → (SpellsGeometry (first_block image) g → ⊥) → (site : Site) → IsOfStage g image 1 site → site ≡ Superblock
+only_superblock : (g : Geometry) (image : Image) → (SpellsGeometry (first_block image) g → ⊥) → (site : Site) → IsOfStage g image 1 site
+    → site ≡ Superblock
 only_superblock g image none Superblock is = refl
 only_superblock g image none Size is = absurd (none is.1)
 only_superblock g image none (Block kind) is = let same = is.0 in absurd (omega (arith, same))
@@ -265,7 +267,8 @@ pub no_block_is_the_fault : (counter : ℕ) → AreFaults counter [] (record { p
 no_block_is_the_fault counter = no_superblock_is_the_fault counter [] no_bytes_spell_none
 
 -- where the image is too short for its geometry, that is the one fault
-right_or_size : (g : Geometry) (counter : ℕ) (image : Image) → SpellsGeometry (first_block image) g → (site : Site) → IsOfStage g image 1 site
+right_or_size : (g : Geometry) (counter : ℕ) (image : Image) → SpellsGeometry (first_block image) g → (site : Site)
+    → IsOfStage g image 1 site
     → IsRight g counter image site ⊎ (site ≡ Size)
 right_or_size g counter image spelled Superblock is = inl spelled
 right_or_size g counter image spelled Size is = inr refl
@@ -299,11 +302,7 @@ too_short_is_the_fault g counter image spelled short =
     subst P (sym (geometry_of-spelled g image spelled)) (inl (λ e. cc, size_listed g counter image spelled short))
 
 -- the list is empty exactly where the volume is valid
-pub faultless_exactly_where_valid : (counter : ℕ) (image : Image) (xs : List Fault) → AreFaults counter image xs → (xs ≡ []) ↔ IsVolume counter image
+pub faultless_exactly_where_valid : (counter : ℕ) (image : Image) (xs : List Fault) → AreFaults counter image xs
+    → (xs ≡ []) ↔ IsVolume counter image
 faultless_exactly_where_valid counter image xs are =
     (λ none. faultless_is_valid counter image (rw none at are), λ valid. valid_has_no_fault counter image xs valid are)
-
-pub tables_faultless_exactly_where_valid : (g : Geometry) (counter : ℕ) (image : Image) (xs : List Fault) → SpellsGeometry (first_block image) g → total g ≤ length image → AreTableFaults g counter image xs
-    → (xs ≡ []) ↔ IsValid g counter image
-tables_faultless_exactly_where_valid g counter image xs spelled long are =
-    (λ none. faultless_tables_are_valid g counter image spelled long (rw none at are), λ valid. valid_has_no_table_fault g counter image xs valid are)

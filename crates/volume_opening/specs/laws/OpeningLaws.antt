@@ -22,13 +22,15 @@ formatted_file g image f formatted =
     ]
 
 -- each image on the way has the files of the one handed in
-pub opening_keeps_files : (g : Geometry) (t : Told) (image : Image) (f : ℕ) → IsOnTheWay g (Some t) image → image_file image f ≡ image_file t.image f
+pub opening_keeps_files : (g : Geometry) (t : Told) (image : Image) (f : ℕ) → IsOnTheWay g (Some t) image
+    → image_file image f ≡ image_file t.image f
 opening_keeps_files g t image f (inl same) = ap (λ (i : Image). image_file i f) same
 opening_keeps_files g t image f (inr (blank, inl still)) = image_file-blank image f still ∙ sym (image_file-blank t.image f blank)
 opening_keeps_files g t image f (inr (blank, inr formatted)) = formatted_file g image f formatted ∙ sym (image_file-blank t.image f blank)
 
 -- and is blank or valid where that one is
-pub opening_keeps_valid : (g : Geometry) (counter : ℕ) (t : Told) (image : Image) → IsBlankOrValid counter t.image → IsOnTheWay g (Some t) image → IsBlankOrValid counter image
+pub opening_keeps_valid : (g : Geometry) (counter : ℕ) (t : Told) (image : Image) → IsBlankOrValid counter t.image
+    → IsOnTheWay g (Some t) image → IsBlankOrValid counter image
 opening_keeps_valid g counter t image was (inl same) = subst (λ (i : Image). IsBlankOrValid counter i) (sym same) was
 opening_keeps_valid g counter t image was (inr (blank, inl still)) = inl still
 opening_keeps_valid g counter t image was (inr (blank, inr formatted)) = inr (IsVolume-valid g counter image (formatted_is_valid g counter image formatted))

@@ -30,27 +30,31 @@ unfolding per_table
 entry_fits n = omega arith
 
 -- the number at a field's byte in the block of a packing
-pub number_spelled : (p : Packing) (x : Field) → IsPacking 4 p → length p.entries ≡ per_table → u32_at (packed_bytes 4 p) (byte_of x) ≡ number_in p x
+pub number_spelled : (p : Packing) (x : Field) → IsPacking 4 p → length p.entries ≡ per_table
+    → u32_at (packed_bytes 4 p) (byte_of x) ≡ number_in p x
 number_spelled p (Head f) fits whole = ap (λ (q : Packing). q.word) (packing_of-packed_bytes 4 p fits)
 number_spelled p (Pointer f i) fits whole = u32_at-packed_bytes (i % per_table) p fits (omega (arith, whole, entry_fits i))
 number_spelled p (Slot s) fits whole = u32_at-packed_bytes (s % per_table) p fits (omega (arith, whole, entry_fits s))
 number_spelled p (Count d) fits whole = u32_at-packed_bytes (d % per_table) p fits (omega (arith, whole, entry_fits d))
 
 -- the number in a field's table is the one in the packing
-pub field-number_in : (g : Geometry) (image : Image) (t : Table) (p : Packing) (x : Field) → IsTableOf g image t p → table_of x ≡ t → field g image x ≡ number_in p x
+pub field-number_in : (g : Geometry) (image : Image) (t : Table) (p : Packing) (x : Field) → IsTableOf g image t p → table_of x ≡ t
+    → field g image x ≡ number_in p x
 unfolding field
 field-number_in g image t p x of at =
     rw (at, of.spelled) (number_spelled p x of.packing.fits of.packing.entries)
 
 -- a block that spells a packing of the table is a spelling in range
-pub spelled_table : (g : Geometry) (t : Table) (p : Packing) → IsPackingOf g t p → IsBlock (packed_bytes 4 p) → IsTable t (packed_bytes 4 p) × HasNumbers g t (packed_bytes 4 p)
+pub spelled_table : (g : Geometry) (t : Table) (p : Packing) → IsPackingOf g t p → IsBlock (packed_bytes 4 p)
+    → IsTable t (packed_bytes 4 p) × HasNumbers g t (packed_bytes 4 p)
 spelled_table g t p of block = (
   record { packing = p; fits = of.fits; magic = of.magic; word = of.word; entries = of.entries; spelled = refl; bytes = block.small },
   λ x has at. subst (IsInRange g x) (sym (number_spelled p x of.fits of.entries)) (of.range x has at),
 )
 
 -- a packing with another number of one field: that field has it
-same_entry : (p : Packing) (at : Option ℕ) (n : ℕ) → n < 2 ^ 32 → ((e : ℕ) → at ≡ Some e → e < length p.entries) → number_at_entry (with_entry p at n) at ≡ n
+same_entry : (p : Packing) (at : Option ℕ) (n : ℕ) → n < 2 ^ 32 → ((e : ℕ) → at ≡ Some e → e < length p.entries)
+    → number_at_entry (with_entry p at n) at ≡ n
 same_entry p None n small inside = refl
 same_entry p (Some e) n small inside =
     let long : length (numbers p) ≡ length p.entries = length-map p.entries (λ (entry : List ℕ). u32_at entry 0) in
@@ -74,7 +78,8 @@ field_entry (Pointer f i) e is = let fits = entry_fits i in let same : i % per_t
 field_entry (Slot s) e is = let fits = entry_fits s in let same : s % per_table ≡ e = cc in subst (λ (n : ℕ). n < per_table) same fits
 field_entry (Count d) e is = let fits = entry_fits d in let same : d % per_table ≡ e = cc in subst (λ (n : ℕ). n < per_table) same fits
 
-pub number_in-with_number : (p : Packing) (x : Field) (n : ℕ) → n < 2 ^ 32 → length p.entries ≡ per_table → number_in (with_number p x n) x ≡ n
+pub number_in-with_number : (p : Packing) (x : Field) (n : ℕ) → n < 2 ^ 32 → length p.entries ≡ per_table
+    → number_in (with_number p x n) x ≡ n
 number_in-with_number p x n small whole =
     same_entry p (entry_of x) n small (λ e is. let below = field_entry x e is in omega (arith, whole, below))
 
@@ -147,14 +152,16 @@ same_place (Count d) (Slot s) table entry = absurd (other_sort (Count d) (Slot s
 same_place (Count d) (Count c) table entry = ap Count (rejoined d c (ap block_no table) (ap some_of entry))
 
 -- another field of the table keeps its number
-pub number_in-other : (p : Packing) (x y : Field) (n : ℕ) → table_of x ≡ table_of y → x ≢ y → number_in (with_number p x n) y ≡ number_in p y
+pub number_in-other : (p : Packing) (x y : Field) (n : ℕ) → table_of x ≡ table_of y → x ≢ y
+    → number_in (with_number p x n) y ≡ number_in p y
 number_in-other p x y n table ne = other_entry p (entry_of x) (entry_of y) n (λ entry. ne (same_place x y table entry))
 
 -- no change is no edit, and a changed field is one edit more
 pub Turns-none : (g : Geometry) (t : Table) (p : Packing) → Turns g t [] p p
 Turns-none g t p = record { inside = All-nil (λ (e : Edit). table_of e.field ≡ t); numbers = λ x has at. refl }
 
-edited_numbers : (es : List Edit) (p q : Packing) (x y : Field) (n : ℕ) → table_of x ≡ table_of y → n < 2 ^ 32 → length q.entries ≡ per_table → number_in q y ≡ edited es y (number_in p y)
+edited_numbers : (es : List Edit) (p q : Packing) (x y : Field) (n : ℕ) → table_of x ≡ table_of y → n < 2 ^ 32
+    → length q.entries ≡ per_table → number_in q y ≡ edited es y (number_in p y)
     → number_in (with_number q x n) y ≡ edited (record { field = x; number = n } ∷ es) y (number_in p y)
 edited_numbers es p q x y n table small whole was =
     elim (cases_Bool (same_field x y)) [
@@ -162,7 +169,8 @@ edited_numbers es p q x y n table small whole was =
       | inr other ↦ rw other (number_in-other q x y n table (other_field x y other) ∙ was)
     ]
 
-pub Turns-set : (g : Geometry) (t : Table) (es : List Edit) (p q : Packing) (x : Field) (n : ℕ) → Turns g t es p q → table_of x ≡ t → n < 2 ^ 32 → length q.entries ≡ per_table
+pub Turns-set : (g : Geometry) (t : Table) (es : List Edit) (p q : Packing) (x : Field) (n : ℕ) → Turns g t es p q → table_of x ≡ t
+    → n < 2 ^ 32 → length q.entries ≡ per_table
     → Turns g t (record { field = x; number = n } ∷ es) p (with_number q x n)
 Turns-set g t es p q x n was at small whole = record {
   inside = All-cons (λ (e : Edit). table_of e.field ≡ t) (record { field = x; number = n }) es at was.inside;
@@ -193,7 +201,8 @@ word_with t p (Pointer f i) n at may = may
 word_with t p (Slot s) n at may = may
 word_with t p (Count d) n at may = may
 
-range_with : (g : Geometry) (p : Packing) (x y : Field) (n : ℕ) → table_of x ≡ table_of y → n < 2 ^ 32 → length p.entries ≡ per_table → IsInRange g x n → IsInRange g y (number_in p y)
+range_with : (g : Geometry) (p : Packing) (x y : Field) (n : ℕ) → table_of x ≡ table_of y → n < 2 ^ 32 → length p.entries ≡ per_table
+    → IsInRange g x n → IsInRange g y (number_in p y)
     → IsInRange g y (number_in (with_number p x n) y)
 range_with g p x y n table small whole here was =
     elim (cases_Bool (same_field x y)) [
@@ -202,7 +211,8 @@ range_with g p x y n table small whole here was =
       | inr other ↦ subst (IsInRange g y) (sym (number_in-other p x y n table (other_field x y other))) was
     ]
 
-pub IsPackingOf-with_number : (g : Geometry) (t : Table) (p : Packing) (x : Field) (n : ℕ) → IsPackingOf g t p → table_of x ≡ t → n < 2 ^ 32 → IsInRange g x n → IsPackingOf g t (with_number p x n)
+pub IsPackingOf-with_number : (g : Geometry) (t : Table) (p : Packing) (x : Field) (n : ℕ) → IsPackingOf g t p → table_of x ≡ t → n < 2 ^ 32
+    → IsInRange g x n → IsPackingOf g t (with_number p x n)
 IsPackingOf-with_number g t p x n of at small in_range = record {
   fits = fits_with p (entry_of x) n small of.fits;
   magic = magic_with p (entry_of x) n ∙ of.magic;

@@ -38,15 +38,18 @@ abbrev pub with_table : Geometry → Image → Table → Packing → Image
 with_table g image t p = written g image (kinds.Table t) (packed_bytes 4 p)
 
 -- that table spells the packing
-pub IsTableOf-written : (g : Geometry) (image : Image) (t : Table) (q : Packing) → HasTable g t → total g ≤ length image → IsPackingOf g t q → IsTableOf g (with_table g image t q) t q
+pub IsTableOf-written : (g : Geometry) (image : Image) (t : Table) (q : Packing) → HasTable g t → total g ≤ length image → IsPackingOf g t q
+    → IsTableOf g (with_table g image t q) t q
 IsTableOf-written g image t q has long of = record { packing = of; spelled = block_at-written g image (kinds.Table t) (packed_bytes 4 q) has long }
 
 -- another table spells what it did
-pub IsTableOf-kept : (g : Geometry) (image : Image) (kind : Kind) (block : List ℕ) (u : Table) (p : Packing) → HasKind g kind → HasTable g u → kinds.Table u ≢ kind → IsTableOf g image u p → IsTableOf g (written g image kind block) u p
+pub IsTableOf-kept : (g : Geometry) (image : Image) (kind : Kind) (block : List ℕ) (u : Table) (p : Packing) → HasKind g kind → HasTable g u
+    → kinds.Table u ≢ kind → IsTableOf g image u p → IsTableOf g (written g image kind block) u p
 IsTableOf-kept g image kind block u p has has_u ne of = record { packing = of.packing; spelled = write_only g image kind block has (kinds.Table u) has_u ne ∙ of.spelled }
 
 -- the standing edits stay
-pub standing-with_table : (g : Geometry) (image : Image) (t : Table) (q : Packing) → HasTable g t → standing g (with_table g image t q) ≡ standing g image
+pub standing-with_table : (g : Geometry) (image : Image) (t : Table) (q : Packing) → HasTable g t
+    → standing g (with_table g image t q) ≡ standing g image
 standing-with_table g image t q has =
     standing_kept g image (with_table g image t q) (kinds.Table t) (write_only g image (kinds.Table t) (packed_bytes 4 q) has) (λ h e. cc)
 
@@ -60,13 +63,15 @@ untouched (e ∷ es) t x inside ne =
     ]
 
 -- a field of another table is not edited, and keeps its number
-other_table : (g : Geometry) (image : Image) (t : Table) (q : Packing) (es : List Edit) (x : Field) → HasTable g t → HasField g x → All (λ e. table_of e.field ≡ t) es → table_of x ≢ t
+other_table : (g : Geometry) (image : Image) (t : Table) (q : Packing) (es : List Edit) (x : Field) → HasTable g t → HasField g x
+    → All (λ e. table_of e.field ≡ t) es → table_of x ≢ t
     → field g (with_table g image t q) x ≡ edited es x (field g image x)
 other_table g image t q es x has field_has inside ne =
     field_kept g image (with_table g image t q) (kinds.Table t) x (write_only g image (kinds.Table t) (packed_bytes 4 q) has) field_has (λ (e : kinds.Table (table_of x) ≡ kinds.Table t). ne cc)
     ∙ sym (edited_untouched es x (field g image x) (untouched es t x inside ne))
 
-same_table : (g : Geometry) (image : Image) (t : Table) (p q : Packing) (es : List Edit) (x : Field) → HasTable g t → total g ≤ length image → HasField g x → IsTableOf g image t p → IsPackingOf g t q → Turns g t es p q
+same_table : (g : Geometry) (image : Image) (t : Table) (p q : Packing) (es : List Edit) (x : Field) → HasTable g t → total g ≤ length image
+    → HasField g x → IsTableOf g image t p → IsPackingOf g t q → Turns g t es p q
     → table_of x ≡ t → field g (with_table g image t q) x ≡ edited es x (field g image x)
 same_table g image t p q es x has long field_has old new turns at =
     field-number_in g (with_table g image t q) t q x (IsTableOf-written g image t q has long new) at
@@ -74,7 +79,8 @@ same_table g image t p q es x has long field_has old new turns at =
     ∙ ap (edited es x) (sym (field-number_in g image t p x old at))
 
 -- the numbers in the tables after the write
-pub field-with_table : (g : Geometry) (image : Image) (t : Table) (p q : Packing) (es : List Edit) (x : Field) → HasTable g t → total g ≤ length image → HasField g x → IsTableOf g image t p → IsPackingOf g t q
+pub field-with_table : (g : Geometry) (image : Image) (t : Table) (p q : Packing) (es : List Edit) (x : Field) → HasTable g t
+    → total g ≤ length image → HasField g x → IsTableOf g image t p → IsPackingOf g t q
     → Turns g t es p q → field g (with_table g image t q) x ≡ edited es x (field g image x)
 field-with_table g image t p q es x has long field_has old new turns =
     let there = HasTable-table_of g x field_has in
@@ -87,7 +93,8 @@ field-with_table g image t p q es x has long field_has old new turns =
     ]
 
 -- where no record stands, the image is edited by the edits that turn the old packing into the new one
-pub IsEdited-with_table : (g : Geometry) (image : Image) (t : Table) (p q : Packing) (es : List Edit) → HasTable g t → total g ≤ length image → IsTableOf g image t p → IsPackingOf g t q → Turns g t es p q
+pub IsEdited-with_table : (g : Geometry) (image : Image) (t : Table) (p q : Packing) (es : List Edit) → HasTable g t
+    → total g ≤ length image → IsTableOf g image t p → IsPackingOf g t q → Turns g t es p q
     → standing g image ≡ [] → IsEdited g image (with_table g image t q) es
 unfolding logical
 IsEdited-with_table g image t p q es has long old new turns none x field_has =
@@ -95,13 +102,16 @@ IsEdited-with_table g image t p q es has long old new turns none x field_has =
     rw (after, none) (field-with_table g image t p q es x has long field_has old new turns)
 
 -- a write of a data block changes no number
-pub IsEdited-with_data : (g : Geometry) (image : Image) (d : ℕ) (block : List ℕ) → HasKind g (kinds.Number d) → IsEdited g image (written g image (kinds.Number d) block) []
+pub IsEdited-with_data : (g : Geometry) (image : Image) (d : ℕ) (block : List ℕ) → HasKind g (kinds.Number d)
+    → IsEdited g image (written g image (kinds.Number d) block) []
 IsEdited-with_data g image d block has x field_has =
     logical_kept g image (written g image (kinds.Number d) block) (kinds.Number d) x (write_only g image (kinds.Number d) block has) (λ h e. cc) (λ t e. cc) field_has
 
 -- each block that a check reads is of its kind after the write of one that is, if it is to be
-each_block : (g : Geometry) (counter : ℕ) (image : Image) (kind other : Kind) (block : List ℕ) → total g ≤ length image → HasKind g kind → (IsChecked kind → IsOfKind g counter kind block) → HasKind g other
-    → IsChecked other → IsOfKind g counter other (block_at g image other) → IsOfKind g counter other (block_at g (written g image kind block) other)
+each_block : (g : Geometry) (counter : ℕ) (image : Image) (kind other : Kind) (block : List ℕ) → total g ≤ length image → HasKind g kind
+    → (IsChecked kind → IsOfKind g counter kind block) → HasKind g other
+    → IsChecked other → IsOfKind g counter other (block_at g image other)
+    → IsOfKind g counter other (block_at g (written g image kind block) other)
 each_block g counter image kind other block long has of has' checked was =
     elim (cases_Bool (place_of g other == place_of g kind)) [
       | inl here ↦
@@ -114,7 +124,8 @@ each_block g counter image kind other block long has of has' checked was =
           subst (IsOfKind g counter other) (sym kept) was
     ]
 
-each_site : (g : Geometry) (counter : ℕ) (image : Image) (kind : Kind) (block : List ℕ) → total g ≤ length image → HasKind g kind → (IsChecked kind → IsOfKind g counter kind block) → IsPassed g counter image 2
+each_site : (g : Geometry) (counter : ℕ) (image : Image) (kind : Kind) (block : List ℕ) → total g ≤ length image → HasKind g kind
+    → (IsChecked kind → IsOfKind g counter kind block) → IsPassed g counter image 2
     → (site : Site) → IsOfStage g (written g image kind block) 2 site → IsRight g counter (written g image kind block) site
 each_site g counter image kind block long has of passed Superblock is = absurd (omega (arith, is.0))
 each_site g counter image kind block long has of passed Size is = absurd (omega (arith, is.0))
@@ -127,7 +138,8 @@ each_site g counter image kind block long has of passed (CountOf d) is = absurd 
 each_site g counter image kind block long has of passed (PointerOf f i) is = absurd (omega (arith, is.0))
 
 -- a readable volume stays readable where a block other than the superblock is written, and of its kind
-pub IsReadable-written : (g : Geometry) (counter : ℕ) (image : Image) (kind : Kind) (block : List ℕ) → HasKind g kind → kinds.Super ≢ kind → (IsChecked kind → IsOfKind g counter kind block)
+pub IsReadable-written : (g : Geometry) (counter : ℕ) (image : Image) (kind : Kind) (block : List ℕ) → HasKind g kind → kinds.Super ≢ kind
+    → (IsChecked kind → IsOfKind g counter kind block)
     → IsReadable g counter image → IsReadable g counter (written g image kind block)
 IsReadable-written g counter image kind block has ne of is =
     let first : first_block (written g image kind block) ≡ first_block image =
@@ -138,16 +150,19 @@ IsReadable-written g counter image kind block has ne of is =
       blocks = each_site g counter image kind block is.long has of is.blocks;
     }
 
-pub IsReadable-with_table : (g : Geometry) (counter : ℕ) (image : Image) (t : Table) (q : Packing) → HasTable g t → IsPackingOf g t q → IsBlock (packed_bytes 4 q) → IsReadable g counter image
+pub IsReadable-with_table : (g : Geometry) (counter : ℕ) (image : Image) (t : Table) (q : Packing) → HasTable g t → IsPackingOf g t q
+    → IsBlock (packed_bytes 4 q) → IsReadable g counter image
     → IsReadable g counter (with_table g image t q)
 IsReadable-with_table g counter image t q has of block is =
     IsReadable-written g counter image (kinds.Table t) (packed_bytes 4 q) has (λ e. cc) (λ _. spelled_table g t q of block) is
 
-pub IsReadable-with_data : (g : Geometry) (counter : ℕ) (image : Image) (d : ℕ) (block : List ℕ) → HasKind g (kinds.Number d) → IsReadable g counter image
+pub IsReadable-with_data : (g : Geometry) (counter : ℕ) (image : Image) (d : ℕ) (block : List ℕ) → HasKind g (kinds.Number d)
+    → IsReadable g counter image
     → IsReadable g counter (written g image (kinds.Number d) block)
 IsReadable-with_data g counter image d block has is =
     IsReadable-written g counter image (kinds.Number d) block has (λ e. cc) (λ none. absurd none) is
 
 -- each table of a readable volume is a spelling in range
-pub readable_table : (g : Geometry) (counter : ℕ) (image : Image) (t : Table) → IsReadable g counter image → HasTable g t → IsSpelledTable g image t
+pub readable_table : (g : Geometry) (counter : ℕ) (image : Image) (t : Table) → IsReadable g counter image → HasTable g t
+    → IsSpelledTable g image t
 readable_table g counter image t is has = is.blocks (Block (kinds.Table t)) (refl, (has, tt))

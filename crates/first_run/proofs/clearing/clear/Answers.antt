@@ -1,9 +1,9 @@
 use Rattle.std.proofs.Common.{[], ◌∷◌, subst}
 use Rattle.vol_layout.specs.declared.field.Field.TheVariants.{Pointer, Count}
 use Rattle.image_view.specs.Balances.{edit}
-use Rattle.shared_disk.specs.State.{State}
+use Rattle.shared_disk.specs.State.{OnImages, State}
 use Rattle.first_run.specs.Halts.{IsStored}
-use Rattle.first_run.specs.Seats.{ChangesContent, OnImages}
+use Rattle.first_run.specs.Seats.{ChangesContent}
 use Rattle.first_run.proofs.EmptiedTold.{cleared_done, kept_done, stopped_left, told_remain}
 use Rattle.first_run.proofs.clearing.clear.Goals as goal
 

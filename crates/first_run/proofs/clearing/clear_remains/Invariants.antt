@@ -1,5 +1,6 @@
 use Rattle.std.proofs.Common.{◌-◌, ◌≤◌, ◌<◌}
-use Rattle.first_run.specs.Seats.{ChangesContent, HasVolume, OnImages}
+use Rattle.shared_disk.specs.State.{OnImages}
+use Rattle.first_run.specs.Seats.{ChangesContent, HasVolume}
 use Rattle.first_run.specs.declared.seat.Owed.TheVariants.{Nothing}
 use Rattle.first_run.proofs.RemainsTold.{Clears}
 use Rattle.first_run.proofs.clearing.clear_remains.Given as goal

@@ -2,7 +2,7 @@ use Rattle.std.proofs.Common.{sym, ap, subst, ◌∙◌, arith}
 use Rattle.std.specs.Prelude.{IfSome}
 use Rattle.shared_disk.specs.State.{State}
 use Rattle.volume_tables.specs.Tables.{IsTableOf}
-use Rattle.first_run.specs.Halts.{TellsVolume}
+use Rattle.first_run.specs.Halts.{TellsReadable}
 use Rattle.first_run.proofs.PointerBlocks.{limit-small, same-block}
 use Rattle.first_run.proofs.RefusedLaws.{refused-since}
 use Rattle.first_run.proofs.ScannedTables.{IsScanned, first_scanned, none_scanned}
@@ -14,7 +14,7 @@ returns-in-Err-clause-cause g c =
     let volume = c.args.geometry.now in
     let first = g.D.Device.state c.args.disk.now in
     let device = g.D.Device.state c.scanning.disk in
-    let tells = subst (TellsVolume volume) (sym c.scanning.invariant.same) c.requires.volume in
+    let tells = subst (TellsReadable volume) (sym c.scanning.invariant.same) c.requires.volume in
     let refused = refused_read volume device.counter device.told (g.D.Device.faults c.scanning.disk) (g.D.Device.faults c.read_table.new.disk) c.table_of-which.result
     c.read_table.result c.in-Err.refusal c.in-Err.is c.table_of-which.ensures.has tells c.read_table.ensures.failed c.read_table.ensures.place c.read_table.ensures.bad in
     refused-since volume first.told device.told (g.D.Device.faults c.args.disk.now) (g.D.Device.faults c.scanning.disk) (g.D.Device.faults c.read_table.new.disk) (g.D.Device.faults c.read_table.new.disk) c.in-Err.refusal

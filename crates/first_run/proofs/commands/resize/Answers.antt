@@ -4,7 +4,7 @@ use Rattle.vol_layout.specs.Ranges.{limit}
 use Rattle.first_run.specs.declared.halt.Halt.{Halt}
 use Rattle.first_run.specs.Halts.{IsHalted}
 use Rattle.first_run.specs.Owing.{edits_owed}
-use Rattle.first_run.specs.Seats.{OnImages}
+use Rattle.shared_disk.specs.State.{OnImages}
 use Rattle.first_run.proofs.ToldFacts.{told-since}
 use Rattle.first_run.proofs.HaltExits.{refused-exit}
 use Rattle.first_run.proofs.LengthTold.{head_absent, head_there}

@@ -3,15 +3,15 @@ use Rattle.std.specs.Prelude.{IfSome}
 use Rattle.vol_base.specs.declared.plain.PlainCall.TheVariants.{Write}
 use Rattle.vol_layout.specs.declared.field.Field.TheVariants.{Count}
 use Rattle.vol_layout.specs.Fields.{HasField, IsPointer}
-use Rattle.shared_disk.specs.State.{State}
+use Rattle.shared_disk.specs.State.{OnImages, State}
 use Rattle.first_run.specs.declared.halt.Halt.{Halt}
 use Rattle.first_run.specs.declared.seat.Owed.TheVariants as owing
 use Rattle.first_run.specs.DataTold.{data-volume}
-use Rattle.first_run.proofs.FreshLaws.{fresh-range}
+use Rattle.call_effects.specs.laws.PointerLaws.{fresh-range}
 use Rattle.first_run.specs.Halts.{IsHalted, IsRefusedFor}
 use Rattle.first_run.specs.Owing.{edits_owed}
 use Rattle.first_run.proofs.SeatLaws.{counter-kept}
-use Rattle.first_run.specs.Seats.{HasVolume, OnImages}
+use Rattle.first_run.specs.Seats.{HasVolume}
 use Rattle.first_run.proofs.TellsLaws.{tells-kept}
 use Rattle.first_run.proofs.FreshTold.{fresh_halted, fresh_kept, fresh_replied, fresh_unpointed, fresh_wrote, may_write, pointer_is}
 use Rattle.first_run.proofs.FreeRefused.{refused_free}

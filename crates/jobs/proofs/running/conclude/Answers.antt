@@ -5,10 +5,13 @@ use Rattle.volume_faults.specs.laws.ReadableLaws.{IsReadableVolume-readable}
 use Rattle.jobs.proofs.RunSteps.{has_keys, reported, reported_without}
 use Rattle.jobs.proofs.running.conclude.Goals as goal
 
-pub survey-requires : goal.survey-requires
-survey-requires g c =
+pub survey-requires-clause-readable : goal.survey-requires-clause-readable
+survey-requires-clause-readable g c =
     let s = g.D.Device.state c.args.disk.now in
     IfSome_then s.told c.requires.volume (λ t kept. IsReadableVolume-readable c.args.workload.now.geometry s.counter t.image kept.readable)
+
+pub survey-requires-clause-expected : goal.survey-requires-clause-expected
+survey-requires-clause-expected g c = IfSome_then (g.D.Device.state c.args.disk.now).told c.requires.volume (λ t kept. kept.readable.superblock)
 
 pub returns-in-Ok-clause-concluded : goal.returns-in-Ok-clause-concluded
 returns-in-Ok-clause-concluded g c =
@@ -30,5 +33,5 @@ returns-in-Err-Bad-clause-concluded g c =
     let place = c.in-Err-Bad.place in
     reported_without _ _ _ _ _ _ _ c.survey.ensures.visiting c.report_without-in-Err-Bad.ensures (
       has_keys _ _ _ is (λ e. cc) c.survey.ensures.no_keys,
-      record { untold = c.survey.ensures.bad place is; left = c.survey.ensures.left place is },
+      record { untold = c.survey.ensures.bad place is; read = c.survey.ensures.place place is; left = c.survey.ensures.left place is },
     )

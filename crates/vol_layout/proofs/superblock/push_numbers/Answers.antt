@@ -5,7 +5,8 @@ use Rattle.vol_base.specs.laws.RowLaws.{length-row}
 use Rattle.vol_layout.proofs.superblock.push_numbers.Goals as goal
 
 -- a draft with a row behind it is longer by four bytes a number
-longer : (draft front numbers : List ℕ) (n : ℕ) → length numbers ≡ n → draft ≡ front ++ flat_map (bytes_of 4) numbers → length draft ≡ length front + 4 * n
+longer : (draft front numbers : List ℕ) (n : ℕ) → length numbers ≡ n → draft ≡ front ++ flat_map (bytes_of 4) numbers
+    → length draft ≡ length front + 4 * n
 longer draft front numbers n e is = ap length is ∙ length-append front (flat_map (bytes_of 4) numbers) ∙ omega (arith, length-row 4 numbers)
 
 pub push_u32-requires : goal.push_u32-requires

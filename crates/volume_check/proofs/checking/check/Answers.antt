@@ -3,8 +3,8 @@ use Rattle.std.proofs.lemmas.Option.{IfSome_then}
 use Rattle.shared_disk.specs.Calls.{after_fence}
 use Rattle.shared_disk.specs.State.{State}
 use Rattle.volume_faults.specs.laws.ValidityLaws.{faultless_exactly_where_valid}
-use Rattle.volume_check.proofs.ToldLaws.{if_ok_then, on_ok_of}
-use Rattle.volume_check.proofs.VisitLaws.{next_registered, visited}
+use Rattle.vol_base.specs.laws.ResultLaws.{if_ok_then, on_ok_of}
+use Rattle.shared_disk.specs.laws.VisitLaws.{next_registered, visited}
 use Rattle.volume_check.proofs.checking.check.Goals as goal
 
 pub end-requires : goal.end-requires

@@ -1,7 +1,8 @@
 use Rattle.std.proofs.Common.{◌≡◌, ◌≤◌, ◌∙◌, sym, ap, arith}
 use Rattle.vol_layout.specs.Regions.{total}
 use Rattle.shared_disk.specs.State.{State}
-use Rattle.volume_check.proofs.ToldLaws.{bad_superblock, empty_device, empty_is_not_blank, if_ok_then, on_ok_of, short_device, whole_device}
+use Rattle.vol_base.specs.laws.ResultLaws.{if_ok_then, on_ok_of}
+use Rattle.volume_check.proofs.ToldLaws.{bad_superblock, empty_device, empty_is_not_blank, short_device, whole_device}
 use Rattle.volume_check.proofs.checking.check_under.Goals as goal
 
 pub returns-then-blocks-eq0-clause-faults : goal.returns-then-blocks-eq0-clause-faults

@@ -1,6 +1,6 @@
 use Rattle.std.proofs.Common.{◌∙◌, ap}
 use Rattle.vol_layout.specs.Regions.{total}
-use Rattle.volume_check.specs.Metadatas.{front_end, further_start}
+use Rattle.vol_layout.specs.Places.{front_end, further_start}
 use Rattle.volume_check.proofs.StageLaws.{stage_added}
 use Rattle.volume_check.proofs.spelling.add_misspelled.Goals as goal
 

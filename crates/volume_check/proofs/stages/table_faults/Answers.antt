@@ -1,7 +1,7 @@
 use Rattle.std.proofs.Common.{◌≡◌, ◌<◌, length, arith}
 use Rattle.std.proofs.lemmas.Bool.Decides.{nat_tests}
 use Rattle.volume_check.proofs.FirstLaws.{ends_at_fourth, ends_at_second, ends_at_third}
-use Rattle.volume_check.proofs.ToldLaws.{if_ok_then}
+use Rattle.vol_base.specs.laws.ResultLaws.{if_ok_then}
 use Rattle.volume_check.proofs.stages.table_faults.Goals as goal
 
 pub returns-then-not-is_empty : goal.returns-then-not-is_empty

@@ -1,8 +1,8 @@
 use Rattle.std.proofs.Common.{inl, inr, ◌∙◌, ap}
 use Rattle.shared_disk.specs.Calls.{after_fence}
 use Rattle.shared_disk.specs.State.{State}
-use Rattle.volume_check.proofs.ToldLaws.{on_ok_of}
-use Rattle.volume_check.proofs.VisitLaws.{next_registered, visited}
+use Rattle.vol_base.specs.laws.ResultLaws.{on_ok_of}
+use Rattle.shared_disk.specs.laws.VisitLaws.{next_registered, visited}
 use Rattle.volume_check.proofs.surveying.survey.Goals as goal
 
 pub end-requires : goal.end-requires

@@ -5,7 +5,8 @@ use Rattle.vol_layout.specs.declared.field.Field.TheVariants.{Pointer}
 use Rattle.vol_layout.specs.Ranges.{limit}
 use Rattle.image_view.specs.Numbers.{logical}
 use Rattle.image_view.specs.laws.UseLaws.{names_one}
-use Rattle.volume_check.proofs.SumsOver.{mapped_sum, summed_more}
+use Rattle.image_view.specs.laws.SumLaws.{summed_more}
+use Rattle.volume_check.proofs.SumsOver.{mapped_sum}
 use Rattle.volume_check.proofs.usages.mapped.Goals as goal
 
 pub loop-file-preserved : goal.loop-file-preserved

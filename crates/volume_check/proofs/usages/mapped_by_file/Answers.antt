@@ -3,7 +3,7 @@ use Rattle.vol_layout.specs.declared.field.Field.TheVariants.{Pointer}
 use Rattle.vol_layout.specs.Ranges.{limit}
 use Rattle.image_view.specs.Numbers.{logical}
 use Rattle.image_view.specs.laws.UseLaws.{names_one}
-use Rattle.volume_check.proofs.SumsOver.{summed_more}
+use Rattle.image_view.specs.laws.SumLaws.{summed_more}
 use Rattle.volume_check.proofs.usages.mapped_by_file.Goals as goal
 
 pub loop-index-preserved : goal.loop-index-preserved

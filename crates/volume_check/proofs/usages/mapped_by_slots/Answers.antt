@@ -3,7 +3,7 @@ use Rattle.vol_layout.specs.declared.field.Field.TheVariants.{Slot}
 use Rattle.vol_layout.specs.Ranges.{arena_slots}
 use Rattle.image_view.specs.Numbers.{logical}
 use Rattle.image_view.specs.laws.UseLaws.{names_one}
-use Rattle.volume_check.proofs.SumsOver.{summed_more}
+use Rattle.image_view.specs.laws.SumLaws.{summed_more}
 use Rattle.volume_check.proofs.usages.mapped_by_slots.Goals as goal
 
 pub loop-slot-preserved : goal.loop-slot-preserved

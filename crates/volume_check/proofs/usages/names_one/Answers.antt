@@ -1,5 +1,5 @@
 use Rattle.std.proofs.Common.{sym}
-use Rattle.volume_check.proofs.SumsOver.{names_none, names_some}
+use Rattle.image_view.specs.laws.UseLaws.{names_none, names_some}
 use Rattle.volume_check.proofs.usages.names_one.Goals as goal
 
 pub returns-then-number-eq0-clause-names : goal.returns-then-number-eq0-clause-names

@@ -3,7 +3,7 @@ use Rattle.vol_layout.specs.declared.field.Field.TheVariants.{Count}
 use Rattle.vol_layout.specs.Ranges.{data_blocks}
 use Rattle.image_view.specs.Numbers.{logical}
 use Rattle.image_view.specs.Usages.{used_numbers}
-use Rattle.volume_check.proofs.SumsOver.{bit_le, bool_byte-is, summed_more}
+use Rattle.image_view.specs.laws.SumLaws.{bit_le, bool_byte-is, summed_more}
 use Rattle.volume_check.proofs.usages.used.Goals as goal
 
 pub loop-number-preserved : goal.loop-number-preserved

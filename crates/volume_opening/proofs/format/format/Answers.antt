@@ -2,17 +2,17 @@ use Rattle.std.proofs.Common.{arith, ◌*◌, refl}
 use Rattle.shared_disk.specs.laws.PrefixLaws.{EachImage-ends, EachImage-joined}
 use Rattle.image_view.specs.Images.{IsBlank}
 use Rattle.volume_opening.proofs.FormatSteps.{both_blanked, format_images, formats, on_err, unformatted}
-use Rattle.volume_opening.proofs.SpanLaws.{spans}
+use Rattle.vol_layout.specs.laws.SpanLaws.{spans_fit}
 use Rattle.volume_opening.proofs.format.format.Goals as goal
 
 pub write_blanks-requires-clause-order : goal.write_blanks-requires-clause-order
-write_blanks-requires-clause-order g c = rw c.place-behind_tables.ensures.place (spans c.args.geometry.now).head
+write_blanks-requires-clause-order g c = rw c.place-behind_tables.ensures.place (spans_fit c.args.geometry.now).0
 
 pub overflow_sub-end : goal.overflow_sub-end
-overflow_sub-end g c = rw (c.from.ensures, c.from-2.ensures, c.total-end.ensures.blocks) (omega (arith, (spans c.args.geometry.now).further))
+overflow_sub-end g c = rw (c.from.ensures, c.from-2.ensures, c.total-end.ensures.blocks) (let fit = spans_fit c.args.geometry.now in omega (arith, fit.0, fit.1))
 
 pub write_blanks-requires-2-clause-behind : goal.write_blanks-requires-2-clause-behind
-write_blanks-requires-2-clause-behind g c = rw (c.from.ensures, c.from-2.ensures, c.total-end.ensures.blocks) (omega (arith, (spans c.args.geometry.now).further))
+write_blanks-requires-2-clause-behind g c = rw (c.from.ensures, c.from-2.ensures, c.total-end.ensures.blocks) (let fit = spans_fit c.args.geometry.now in omega (arith, fit.0, fit.1))
 
 pub write_blanks-requires-2-clause-blank : goal.write_blanks-requires-2-clause-blank
 write_blanks-requires-2-clause-blank g c = EachImage-ends IsBlank _ _ c.write_blanks.ensures.images

@@ -1,11 +1,11 @@
 use Rattle.std.proofs.Common.{◌∙◌}
-use Rattle.volume_opening.specs.Found.{spelled}
+use Rattle.volume_opening.specs.Found.{found_geometry}
 use Rattle.volume_opening.specs.laws.MisfitLaws.{misfit_none-long}
 use Rattle.volume_opening.proofs.OpeningSteps.{opened_judged, refused_judged}
 use Rattle.volume_opening.proofs.opening.open_used.Goals as goal
 
 pub find_held-requires-clause-long : goal.find_held-requires-clause-long
-find_held-requires-clause-long g c = rw c.list_faults.ensures.same (misfit_none-long c.args.geometry.now _ (spelled c.args.block_zero.now) c.requires.fits)
+find_held-requires-clause-long g c = rw c.list_faults.ensures.same (misfit_none-long c.args.geometry.now _ (found_geometry c.args.block_zero.now) c.requires.fits)
 
 pub find_held-requires-clause-valid : goal.find_held-requires-clause-valid
 find_held-requires-clause-valid g c =

@@ -1,6 +1,7 @@
 use Rattle.volume_opening.proofs.OpeningSteps.{refused_entry, unchanged_images}
-use Rattle.volume_opening.proofs.StateLaws.{visit}
-use Rattle.volume_opening.proofs.VisitSteps.{entered_key, fence_failed, is_visited, left_after, on_ok, rose_since, still_entered}
+use Rattle.shared_disk.specs.laws.VisitLaws.{visit}
+use Rattle.vol_base.specs.laws.ResultLaws.{on_ok_of}
+use Rattle.volume_opening.proofs.VisitSteps.{entered_key, fence_failed, is_visited, left_after, rose_since, still_entered}
 use Rattle.volume_opening.proofs.opening.visit.Goals as goal
 
 pub returns-in-Err-clause-refused : goal.returns-in-Err-clause-refused
@@ -18,7 +19,7 @@ returns-in-Ok-fence-clause-visited g c =
     let entered = g.D.Device.state c.register.new.self in
     let used = g.D.Device.state c.open_under-opened.new.disk in
     let left = g.D.Device.state c.fence.new.self in
-    on_ok c.open_under-opened.result
+    on_ok_of c.open_under-opened.result
     (is_visited before used left (visit before entered used left c.in-Ok.key.0 c.in-Ok.ensures.key (g.met.D.Device.keys_reached c.args.disk.now) c.in-Ok.ensures.done c.open_under-opened.ensures.only c.in-Ok-fence.ensures.done))
 
 pub returns-in-Ok-fence-clause-left : goal.returns-in-Ok-fence-clause-left

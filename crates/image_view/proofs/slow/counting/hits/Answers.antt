@@ -1,5 +1,6 @@
 use Rattle.std.proofs.Common.{◌-◌, ◌%◌, ◌^◌, ◌==◌, sym, ◌∙◌}
-use Rattle.image_view.proofs.SlowLaws.{bool_byte-is, hits_any, hits_one, hits_zero}
+use Rattle.image_view.specs.laws.SumLaws.{bool_byte-is}
+use Rattle.image_view.proofs.SlowLaws.{hits_any, hits_one, hits_zero}
 use Rattle.image_view.proofs.slow.counting.hits.Goals as goal
 
 pub returns-then-name-eq0-clause-hits : goal.returns-then-name-eq0-clause-hits

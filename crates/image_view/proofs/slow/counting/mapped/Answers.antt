@@ -4,7 +4,8 @@ use Rattle.vol_layout.specs.declared.field.Field.TheVariants.{Pointer}
 use Rattle.vol_layout.specs.Ranges.{limit}
 use Rattle.image_view.specs.Blocks.{hits, image_of}
 use Rattle.image_view.specs.Numbers.{logical}
-use Rattle.image_view.proofs.SlowLaws.{mapped_sum, summed_more}
+use Rattle.image_view.specs.laws.SumLaws.{summed_more}
+use Rattle.image_view.proofs.SlowLaws.{mapped_sum}
 use Rattle.image_view.proofs.slow.counting.mapped.Goals as goal
 
 pub loop-file-preserved : goal.loop-file-preserved

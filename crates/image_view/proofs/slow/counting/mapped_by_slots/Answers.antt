@@ -2,7 +2,7 @@ use Rattle.std.proofs.Common.{ap, ◌∙◌, arith}
 use Rattle.vol_layout.specs.declared.field.Field.TheVariants.{Slot}
 use Rattle.image_view.specs.Blocks.{hits, image_of}
 use Rattle.image_view.specs.Numbers.{logical}
-use Rattle.image_view.proofs.SlowLaws.{summed_more}
+use Rattle.image_view.specs.laws.SumLaws.{summed_more}
 use Rattle.image_view.proofs.slow.counting.mapped_by_slots.Goals as goal
 
 pub loop-slot-preserved : goal.loop-slot-preserved

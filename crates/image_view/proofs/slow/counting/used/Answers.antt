@@ -4,7 +4,7 @@ use Rattle.vol_layout.specs.Ranges.{data_blocks}
 use Rattle.image_view.specs.Blocks.{image_of}
 use Rattle.image_view.specs.Numbers.{logical}
 use Rattle.image_view.specs.Usages.{used_numbers}
-use Rattle.image_view.proofs.SlowLaws.{bit_le, bool_byte-is, summed_more}
+use Rattle.image_view.specs.laws.SumLaws.{bit_le, bool_byte-is, summed_more}
 use Rattle.image_view.proofs.slow.counting.used.Goals as goal
 
 pub loop-number-preserved : goal.loop-number-preserved

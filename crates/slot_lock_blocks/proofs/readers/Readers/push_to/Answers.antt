@@ -5,7 +5,8 @@ use Rattle.vol_base.specs.laws.RowLaws.{length-row}
 use Rattle.slot_lock_blocks.proofs.readers.Readers.push_to.Goals as goal
 
 -- a draft with the first n keys behind it
-longer : (draft front keys : List ℕ) (n : ℕ) → draft ≡ front ++ flat_map (bytes_of 8) (take n keys) → n ≤ length keys → length draft ≡ length front + 8 * n
+longer : (draft front keys : List ℕ) (n : ℕ) → draft ≡ front ++ flat_map (bytes_of 8) (take n keys) → n ≤ length keys
+    → length draft ≡ length front + 8 * n
 longer draft front keys n e h =
     ap length e ∙ length-append front (flat_map (bytes_of 8) (take n keys)) ∙ omega (arith, length-row 8 (take n keys), length-take-le n keys h)
 

@@ -5,7 +5,8 @@ use Rattle.vol_layout.specs.laws.SuperblockLaws.{superblock_reads_back}
 use Rattle.vol_layout.proofs.geometry.Geometry.candidate.Goals as goal
 
 -- a number that was read, and fits
-fits : (bytes spelled : List ℕ) (at r n m : ℕ) → bytes ≡ spelled → u32_at spelled at ≡ m → m ≤ 64 → r ≡ u32_at bytes at → (r < 256 → n ≡ r) → n ≡ m
+fits : (bytes spelled : List ℕ) (at r n m : ℕ) → bytes ≡ spelled → u32_at spelled at ≡ m → m ≤ 64 → r ≡ u32_at bytes at
+    → (r < 256 → n ≡ r) → n ≡ m
 fits bytes spelled at r n m e reads small was narrow =
     let is : r ≡ m = was ∙ ap (λ (xs : List ℕ). u32_at xs at) e ∙ reads in
     narrow (omega arith) ∙ is
@@ -14,11 +15,13 @@ fits bytes spelled at r n m e reads small was narrow =
 geometry : (h f g p s l t : ℕ) → Geometry
 geometry h f g p s l t = record { hosts = h; files = f; groups = g; parts = p; shards = s; logs = l; tables = t }
 
-alike : (a b : Geometry) → a.hosts ≡ b.hosts → a.files ≡ b.files → a.groups ≡ b.groups → a.parts ≡ b.parts → a.shards ≡ b.shards → a.logs ≡ b.logs → a.tables ≡ b.tables
+alike : (a b : Geometry) → a.hosts ≡ b.hosts → a.files ≡ b.files → a.groups ≡ b.groups → a.parts ≡ b.parts → a.shards ≡ b.shards
+    → a.logs ≡ b.logs → a.tables ≡ b.tables
     → geometry a.hosts a.files a.groups a.parts a.shards a.logs a.tables ≡ geometry b.hosts b.files b.groups b.parts b.shards b.logs b.tables
 alike a b h f g p s l t = cc
 
-same : (a b : Geometry) → a.hosts ≡ b.hosts → a.files ≡ b.files → a.groups ≡ b.groups → a.parts ≡ b.parts → a.shards ≡ b.shards → a.logs ≡ b.logs → a.tables ≡ b.tables → a ≡ b
+same : (a b : Geometry) → a.hosts ≡ b.hosts → a.files ≡ b.files → a.groups ≡ b.groups → a.parts ≡ b.parts → a.shards ≡ b.shards
+    → a.logs ≡ b.logs → a.tables ≡ b.tables → a ≡ b
 unfolding geometry
 same a b h f g p s l t = alike a b h f g p s l t
 

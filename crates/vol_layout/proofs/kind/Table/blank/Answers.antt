@@ -16,7 +16,8 @@ eight (tables.Group r) = refl
 eight (tables.Part p) = refl
 
 -- the zeros behind the count
-padded : (t : Table) (draft : List ℕ) → length (table_magic t) ≡ 8 → draft ≡ table_magic t ++ bytes_of 4 1008 → draft ++ zeros (4096 - length draft) ≡ blank_table t
+padded : (t : Table) (draft : List ℕ) → length (table_magic t) ≡ 8 → draft ≡ table_magic t ++ bytes_of 4 1008
+    → draft ++ zeros (4096 - length draft) ≡ blank_table t
 padded t draft eight e =
     let long : length draft ≡ 12 = rw e (length-append (table_magic t) (bytes_of 4 1008) ∙ omega (arith, length-bytes_of 4 1008)) in
     let left : 4096 - length draft ≡ 4084 = omega arith in

@@ -1,6 +1,6 @@
 use Rattle.std.proofs.Common.{◌∙◌, sym, arith}
 use Rattle.vol_layout.specs.Ranges.{per_table}
-use Rattle.volume_check.proofs.TableLaws.{byte_of-entry, byte_of-word, field_in_table}
+use Rattle.volume_check.proofs.FieldReads.{byte_of-entry, byte_of-word, field_in_table}
 use Rattle.volume_check.proofs.metadata.Metadata.number.Goals as goal
 
 pub u32_at-requires-in-Some : goal.u32_at-requires-in-Some

@@ -1,0 +1,13 @@
+pub mod Changes
+pub mod Clones
+pub mod Collections
+pub mod Counts
+pub mod Drops
+pub mod Fresh
+pub mod Heads
+pub mod Links
+pub mod Places
+pub mod Promotions
+pub mod Purges
+pub mod Shares
+pub mod laws

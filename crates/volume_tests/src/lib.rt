@@ -1,0 +1,12 @@
+//! Tests of the check of a volume, of its opening and of its tables: what no clause says, and volumes that
+//! are built by hand. They stand in one crate, so that the crates below are proved once.
+#![tactic(auto)]
+
+#[cfg(test)]
+mod faults;
+#[cfg(test)]
+mod openings;
+#[cfg(test)]
+mod tables;
+#[cfg(test)]
+mod volumes;
