@@ -1,0 +1,13 @@
+pub mod Agreement
+pub mod Calls
+pub mod Consistent
+pub mod Freeing
+pub mod InMemory
+pub mod KeepsImage
+pub mod Keys
+pub mod MayWrite
+pub mod Memories
+pub mod Others
+pub mod SameElse
+pub mod Sure
+pub mod laws

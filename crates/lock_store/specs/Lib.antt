@@ -1,0 +1,7 @@
+pub mod Calls
+pub mod Devices
+pub mod Events
+pub mod Memories
+pub mod SlotTries
+pub mod Tries
+pub mod Views
