@@ -8,7 +8,9 @@ invariant_of-self g c =
     let did : Beats c.args.self.now c.args.host c.write-shown.result c.write-shown.new.self = search rules in
     (beat_law c.args.self.now c.args.host c.key-key.ensures.consistent c.requires.host (c.me.ensures.named c.requires.joined) c.write-shown.new.self c.known.ensures.device c.write-shown.result c.requires.joined did).0
 
+pub returns-clause-did : goal.returns-clause-did
+returns-clause-did g c = let did : Beats c.args.self.now c.args.host c.write-shown.result c.write-shown.new.self = search rules in did
+
 pub returns-clause-others : goal.returns-clause-others
 returns-clause-others g c =
-    let did : Beats c.args.self.now c.args.host c.write-shown.result c.write-shown.new.self = search rules in
-    (beat_law c.args.self.now c.args.host c.key-key.ensures.consistent c.requires.host (c.me.ensures.named c.requires.joined) c.write-shown.new.self c.known.ensures.device c.write-shown.result c.requires.joined did).1
+    (beat_law c.args.self.now c.args.host c.key-key.ensures.consistent c.requires.host (c.me.ensures.named c.requires.joined) c.write-shown.new.self c.known.ensures.device c.write-shown.result c.requires.joined (returns-clause-did g c)).1

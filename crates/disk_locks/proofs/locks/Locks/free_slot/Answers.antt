@@ -16,12 +16,13 @@ returns-clause-others g c =
     let did : ClearsSlot c.args.self.now c.args.host c.args.of c.try_slot-tried.result c.try_slot-tried.new.self = search rules in
     (free_law c.args.self.now c.args.host c.key-key.ensures.consistent c.requires.host c.requires.key c.try_slot-tried.new.self c.known.ensures.device c.args.of c.try_slot-tried.result c.requires.of c.requires.may c.requires.unneeded did).1
 
+pub returns-clause-did : goal.returns-clause-did
+returns-clause-did g c = let did : FreesSlot c.args.self.now c.args.host c.args.of c.left.result c.try_slot-tried.new.self = search rules in did
+
 pub returns-clause-sound : goal.returns-clause-sound
 returns-clause-sound g c =
-    let did : FreesSlot c.args.self.now c.args.host c.args.of c.left.result c.try_slot-tried.new.self = search rules in
-    free_sound c.args.self.now c.args.host c.key-key.ensures.consistent (c.requires.key) c.args.of c.left.result c.try_slot-tried.new.self c.requires.of did
+    free_sound c.args.self.now c.args.host c.key-key.ensures.consistent (c.requires.key) c.args.of c.left.result c.try_slot-tried.new.self c.requires.of (returns-clause-did g c)
 
 pub returns-clause-freed : goal.returns-clause-freed
 returns-clause-freed g c =
-    let did : FreesSlot c.args.self.now c.args.host c.args.of c.left.result c.try_slot-tried.new.self = search rules in
-    freed_law c.args.self.now c.args.host c.key-key.ensures.consistent c.requires.key c.args.of c.left.result c.try_slot-tried.new.self c.requires.host c.requires.of c.requires.may did
+    freed_law c.args.self.now c.args.host c.key-key.ensures.consistent c.requires.key c.args.of c.left.result c.try_slot-tried.new.self c.requires.host c.requires.of c.requires.may (returns-clause-did g c)

@@ -8,7 +8,9 @@ invariant_of-self g c =
     let did : ReadsBlock c.args.self.now c.args.host c.args.kind c.read-block.result c.read-block.new.self = search rules in
     (get_law c.args.self.now c.args.host c.args.kind c.read-block.result c.read-block.new.self c.key-key.ensures.consistent c.requires.key did).0
 
+pub returns-clause-did : goal.returns-clause-did
+returns-clause-did g c = let did : ReadsBlock c.args.self.now c.args.host c.args.kind c.read-block.result c.read-block.new.self = search rules in did
+
 pub returns-clause-others : goal.returns-clause-others
 returns-clause-others g c =
-    let did : ReadsBlock c.args.self.now c.args.host c.args.kind c.read-block.result c.read-block.new.self = search rules in
-    (get_law c.args.self.now c.args.host c.args.kind c.read-block.result c.read-block.new.self c.key-key.ensures.consistent c.requires.key did).1
+    (get_law c.args.self.now c.args.host c.args.kind c.read-block.result c.read-block.new.self c.key-key.ensures.consistent c.requires.key (returns-clause-did g c)).1

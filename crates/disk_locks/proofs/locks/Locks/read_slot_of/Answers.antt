@@ -9,12 +9,13 @@ invariant_of-self g c =
     let did : ReadsSlot c.args.self.now c.args.host c.args.of c.read_slot-slot.result c.read_slot-slot.new.self = search rules in
     (look_law c.args.self.now c.args.host c.args.of c.read_slot-slot.result c.read_slot-slot.new.self c.key-key.ensures.consistent c.requires.key did).0
 
+pub returns-clause-did : goal.returns-clause-did
+returns-clause-did g c = let did : ReadsSlot c.args.self.now c.args.host c.args.of c.read_slot-slot.result c.read_slot-slot.new.self = search rules in did
+
 pub returns-clause-others : goal.returns-clause-others
 returns-clause-others g c =
-    let did : ReadsSlot c.args.self.now c.args.host c.args.of c.read_slot-slot.result c.read_slot-slot.new.self = search rules in
-    (look_law c.args.self.now c.args.host c.args.of c.read_slot-slot.result c.read_slot-slot.new.self c.key-key.ensures.consistent c.requires.key did).1
+    (look_law c.args.self.now c.args.host c.args.of c.read_slot-slot.result c.read_slot-slot.new.self c.key-key.ensures.consistent c.requires.key (returns-clause-did g c)).1
 
 pub returns-clause-sound : goal.returns-clause-sound
 returns-clause-sound g c =
-    let did : ReadsSlot c.args.self.now c.args.host c.args.of c.read_slot-slot.result c.read_slot-slot.new.self = search rules in
-    look_sound c.args.self.now c.args.host c.key-key.ensures.consistent (c.requires.key) c.args.of c.read_slot-slot.result c.read_slot-slot.new.self c.requires.of did
+    look_sound c.args.self.now c.args.host c.key-key.ensures.consistent (c.requires.key) c.args.of c.read_slot-slot.result c.read_slot-slot.new.self c.requires.of (returns-clause-did g c)

@@ -8,7 +8,9 @@ invariant_of-self g c =
     let did : RegistersHost c.args.self.now c.args.host c.register-given.result c.register-given.new.self = search rules in
     (register_law c.args.self.now c.args.host c.register-given.result c.register-given.new.self c.me-memory.ensures.consistent c.requires.host c.requires.none c.known.ensures.device did).0
 
+pub returns-clause-did : goal.returns-clause-did
+returns-clause-did g c = let did : RegistersHost c.args.self.now c.args.host c.register-given.result c.register-given.new.self = search rules in did
+
 pub returns-clause-others : goal.returns-clause-others
 returns-clause-others g c =
-    let did : RegistersHost c.args.self.now c.args.host c.register-given.result c.register-given.new.self = search rules in
-    (register_law c.args.self.now c.args.host c.register-given.result c.register-given.new.self c.me-memory.ensures.consistent c.requires.host c.requires.none c.known.ensures.device did).1
+    (register_law c.args.self.now c.args.host c.register-given.result c.register-given.new.self c.me-memory.ensures.consistent c.requires.host c.requires.none c.known.ensures.device (returns-clause-did g c)).1

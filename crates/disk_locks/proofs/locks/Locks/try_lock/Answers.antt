@@ -15,7 +15,9 @@ returns-clause-others g c =
     let did : TriesHold c.args.self.now c.args.host c.args.what c.try_lock-tried.result c.try_lock-tried.new.self = search rules in
     (share_law c.args.self.now c.args.host c.key-key.ensures.consistent c.requires.host c.requires.joined c.try_lock-tried.new.self c.known.ensures.device c.args.what c.try_lock-tried.result c.requires.what c.requires.shared did).1
 
+pub returns-clause-did : goal.returns-clause-did
+returns-clause-did g c = let did : TriesShared c.args.self.now c.args.host c.args.what c.got.result c.try_lock-tried.new.self = search rules in did
+
 pub returns-clause-sound : goal.returns-clause-sound
 returns-clause-sound g c =
-    let did : TriesShared c.args.self.now c.args.host c.args.what c.got.result c.try_lock-tried.new.self = search rules in
-    shared_sound c.args.self.now c.args.host c.key-key.ensures.consistent (c.me.ensures.named c.requires.joined) c.args.what c.got.result c.try_lock-tried.new.self c.requires.what c.requires.shared c.requires.out did
+    shared_sound c.args.self.now c.args.host c.key-key.ensures.consistent (c.me.ensures.named c.requires.joined) c.args.what c.got.result c.try_lock-tried.new.self c.requires.what c.requires.shared c.requires.out (returns-clause-did g c)
