@@ -11,8 +11,8 @@ use Rattle.shared_disk.specs.State.{Told}
 use Rattle.image_view.specs.Images.{Image}
 use Rattle.image_view.specs.Numbers.{logical}
 use Rattle.image_view.specs.Pointers.{named}
-use Rattle.volume_tables.specs.laws.NumberLaws.{field-number_in}
-use Rattle.volume_tables.specs.Tables.{IsTableOf, number_in}
+use Rattle.table_blocks.specs.laws.NumberLaws.{field-number_in}
+use Rattle.table_blocks.specs.Tables.{IsTableOf, number_in}
 use Rattle.first_run.specs.Halts.{IsFirstRemain, IsReadableNow}
 use Rattle.first_run.specs.laws.KeptLaws.{logical-field}
 

@@ -18,8 +18,10 @@ use Rattle.image_view.specs.laws.FrameLaws.{write_only}
 use Rattle.image_view.specs.Numbers.{logical}
 use Rattle.volume_tables.specs.declared.access.AccessNo.{AccessNo}
 use Rattle.volume_tables.specs.declared.access.AccessNo.TheVariants.{Failed, Bad, NoMemory}
-use Rattle.volume_tables.specs.laws.NumberLaws.{IsPackingOf-with_number, Turns-none, Turns-set, field-number_in}
-use Rattle.volume_tables.specs.Tables.{IsPackingOf, IsSpelledTable, IsTableOf, Turns, number_in, with_number}
+use Rattle.table_blocks.specs.laws.NumberLaws.{IsPackingOf-with_number, field-number_in}
+use Rattle.table_blocks.specs.Tables.{IsPackingOf, IsSpelledTable, IsTableOf, number_in, with_number}
+use Rattle.volume_tables.specs.Turns.{Turns}
+use Rattle.volume_tables.specs.laws.TurnLaws.{Turns-none, Turns-set}
 use Rattle.volume_tables.specs.laws.WriteLaws.{IsEdited-with_table, IsReadable-with_table, readable_table, standing-with_table}
 use Rattle.first_run.specs.Halts.{IsReadableNow, IsRefusedFor, IsStored}
 use Rattle.first_run.specs.laws.KeptLaws.{logical-field}

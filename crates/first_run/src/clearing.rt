@@ -4,7 +4,7 @@ ghost use Rattle.vol_layout.specs.Fields.{table_of};
 ghost use Rattle.vol_layout.specs.Ranges.{IsGeometry, data_blocks, limit};
 ghost use Rattle.image_view.specs.Numbers.{logical};
 ghost use Rattle.image_view.specs.Pointers.{named};
-ghost use Rattle.volume_tables.specs.Tables.{IsPackingOf, number_in};
+ghost use Rattle.table_blocks.specs.Tables.{IsPackingOf, number_in};
 ghost use Rattle.first_run.specs.Effects.{Becomes, blocks_of, cleared};
 ghost use Rattle.first_run.specs.Halts.{IsFirstRemain, IsRefusedFor, IsPartlyCleared, TellsReadable};
 ghost use Rattle.first_run.specs.Owing.{AreOwed, edits_owed};
@@ -16,9 +16,10 @@ use crate::numbers::{load, pay, store};
 use crate::seat::{CountEdit, Owed};
 use image_view::{Number, read_pointer};
 use shared_disk::Device;
+use table_blocks::number;
 use vol_base::{DataNo, FileNo, Key, Packed};
 use vol_layout::{Field, Geometry, PER_TABLE};
-use volume_tables::{AccessNo, number, read_table};
+use volume_tables::{AccessNo, read_table};
 
 /// Makes holes of the pointers of a file from an index to below another, each one before its data block's
 /// count is lowered.

@@ -11,9 +11,10 @@ ghost use Rattle.first_run.specs.Seats.{ChangesContent, IsServed};
 use crate::halt::Halt;
 use crate::seat::{CountEdit, Owed};
 use shared_disk::Device;
+use table_blocks::{number, set_number};
 use vol_base::Key;
 use vol_layout::{Field, Geometry};
-use volume_tables::{AccessNo, number, read_table, set_number, write_table};
+use volume_tables::{AccessNo, read_table, write_table};
 
 /// Reads the number of a field.
 pub fn load<D: Device>(

@@ -12,8 +12,8 @@ use Rattle.vol_layout.specs.Ranges.{data_blocks, per_table}
 use Rattle.image_view.specs.Images.{Image}
 use Rattle.image_view.specs.Numbers.{field}
 use Rattle.volume_tables.specs.Free.{IsLowestFree, NoneIsFreeBelow}
-use Rattle.volume_tables.specs.laws.NumberLaws.{field-number_in}
-use Rattle.volume_tables.specs.Tables.{IsTableOf}
+use Rattle.table_blocks.specs.laws.NumberLaws.{field-number_in}
+use Rattle.table_blocks.specs.Tables.{IsTableOf}
 
 in_group : (r e : ℕ) → e < per_table → (per_table * r + e) / per_table ≡ r
 unfolding per_table

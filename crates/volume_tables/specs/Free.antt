@@ -8,7 +8,7 @@ use Rattle.vol_layout.specs.declared.field.Field.TheVariants.{Count}
 use Rattle.vol_layout.specs.Fields.{HasField}
 use Rattle.image_view.specs.Images.{Image}
 use Rattle.image_view.specs.Numbers.{field}
-use Rattle.volume_tables.specs.Tables.{IsSpelledTable}
+use Rattle.table_blocks.specs.Tables.{IsSpelledTable}
 
 -- no data number below this one has the count 0 in its table
 abbrev pub NoneIsFreeBelow : Geometry → Image → ℕ → Type 0

@@ -1,3 +1,3 @@
 pub mod Free
-pub mod Tables
+pub mod Turns
 pub mod laws

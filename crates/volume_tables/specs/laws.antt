@@ -1,2 +1,2 @@
-pub mod NumberLaws
+pub mod TurnLaws
 pub mod WriteLaws

@@ -1,5 +1,5 @@
-//! The table blocks and the data blocks of a volume, read and written under a registered key, and the
-//! numbers of a table's fields. The definitions, and the laws of what a write changes, stand in `specs/`.
+//! The table blocks and the data blocks of a volume, read and written under a registered key. The
+//! definitions of a free data block, and the laws of what a write changes, stand in `specs/`.
 //!
 //! # What is proved
 //!
@@ -14,29 +14,24 @@
 //! - `write_table` and `write_number`: at Ok exactly the write of that block at its place (`done`), else nothing changed
 //!   (`same`); `Failed` and `NoMemory` with their causes (`failed`, `memory`), and `Bad` never (`bad`).
 //! - `read_number`: the data block of the image (`block`), and no refusal but `Failed` (`only`, `failed`).
-//! - `number`, `set_number`: exactly the number of the field in the packing, and exactly the packing with that number.
 //! - `lowest_free`: exactly the lowest data number whose count in its table is 0, and `None` exactly where no count is 0
 //!   (`free`); a data number of the volume over any device (`range`); `Bad` names a group's table (`place`), and never comes where
 //!   each group's table is a spelling in range (`bad`).
-//! - Laws (`specs/laws/NumberLaws.antt`, `specs/laws/WriteLaws.antt`): a field's number in the image is that in its table's packing
-//!   (`field-number_in`); a changed field has its number and every other keeps its own (`number_in-with_number`,
-//!   `number_in-other`); the packing stays in range (`IsPackingOf-with_number`); the written table spells what was written
-//!   (`IsTableOf-written`), other tables and standing edits stay (`IsTableOf-kept`, `standing-with_table`); where no record
-//!   stands the image is edited by exactly the edits that turn the old packing into the new one (`IsEdited-with_table`), and a
-//!   write of a data block changes no number (`IsEdited-with_data`); a readable volume stays readable (`IsReadable-with_table`,
-//!   `IsReadable-with_data`).
+//! - Laws (`specs/laws/TurnLaws.antt`, `specs/laws/WriteLaws.antt`): a number changed in a packing is one edit more (`Turns-set`);
+//!   the written table spells what was written (`IsTableOf-written`), other tables and standing edits stay (`IsTableOf-kept`,
+//!   `standing-with_table`); where no record stands the image is edited by exactly the edits that turn the old packing into the new
+//!   one (`IsEdited-with_table`), and a write of a data block changes no number (`IsEdited-with_data`); a readable volume stays
+//!   readable (`IsReadable-with_table`, `IsReadable-with_data`).
 //! - `volume_tests` tests on a formatted volume of two groups: numbers of each kind of field kept and read, the lowest free block
 //!   until none is left, a data block, and a table that was spoiled and is named.
 #![tactic(auto)]
 
 mod access;
-mod fields;
 mod free;
 mod reading;
 mod writing;
 
 pub use access::AccessNo;
-pub use fields::{number, set_number};
 pub use free::lowest_free;
 pub use reading::{read_number, read_table};
 pub use writing::{write_number, write_table};

@@ -1,24 +1,21 @@
 // Reads of table blocks and data blocks.
-ghost use Rattle.std.specs.Prelude.{◌≡◌, ◌≢◌, ◌≤◌, ℕ, Contains, IfErr, IfOk, IfSome, IsNone, OnErr};
+ghost use Rattle.std.specs.Prelude.{◌≡◌, ◌≢◌, ◌≤◌, ℕ, Contains, IfErr, IfOk, IfSome, OnErr};
 ghost use Rattle.shared_disk.specs.Calls.{next_count};
 ghost use Rattle.shared_disk.specs.State.{Stands};
 ghost use Rattle.vol_base.specs.Faults.{Rose};
-ghost use Rattle.vol_base.specs.Packing.{packed_bytes};
 ghost use Rattle.vol_layout.specs.declared.kind.Kind.TheVariants as kinds;
 ghost use Rattle.vol_layout.specs.Fields.{HasField};
 ghost use Rattle.vol_layout.specs.Places.{place_of};
 ghost use Rattle.vol_layout.specs.Ranges.{HasKind, HasTable, IsGeometry};
 ghost use Rattle.vol_layout.specs.Regions.{total};
 ghost use Rattle.image_view.specs.Images.{block_at};
-ghost use Rattle.image_view.specs.Spelled.{IsTable};
-ghost use Rattle.volume_faults.specs.Sites.{HasNumbers};
-ghost use Rattle.volume_tables.specs.Tables.{IsPackingOf, IsSpelledTable, IsTableOf};
+ghost use Rattle.table_blocks.specs.Tables.{IsPackingOf, IsSpelledTable, IsTableOf};
 
 use crate::access::AccessNo;
 use shared_disk::Device;
+use table_blocks::table_in;
 use vol_base::{Block, DataNo, Key, Packed};
 use vol_layout::{Geometry, Kind, Table};
-use volume_faults::is_of_kind;
 
 /// Reads a table block by one call of the device. `Bad` has its place, and comes exactly where the
 /// block that was read is no spelling in range.
@@ -98,20 +95,5 @@ fn read_kind<D: Device>(
     match disk.read(key, geometry.place(kind)) {
         Ok(block) => Ok(block),
         Err(_) => Err(AccessNo::Failed),
-    }
-}
-
-// What the block spells as the table; `None` exactly where it is no spelling in range.
-fn table_in(geometry: &Geometry, which: Table, block: Block) -> Option<Packed<4>>
-    requires geometry { IsGeometry geometry.now }
-    requires table { HasTable geometry.now which }
-    ensures packing { IfSome result (λ table. IsPackingOf geometry.now which table) }
-    ensures spelled { IfSome result (λ table. block.0 ≡ packed_bytes 4 table) }
-    ensures none { IsNone result → (IsTable which block.0 × HasNumbers geometry.now which block.0) → ⊥ }
-{
-    if is_of_kind(geometry, 0, Kind::Table(which), &block) {
-        Packed::<4>::of(block, which.magic())
-    } else {
-        None
     }
 }

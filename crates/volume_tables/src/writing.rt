@@ -11,6 +11,7 @@ ghost use Rattle.vol_layout.specs.Regions.{total};
 
 use crate::access::AccessNo;
 use shared_disk::{Device, DiskNo};
+use table_blocks::block_of;
 use vol_base::{Block, DataNo, Key, Packed};
 use vol_layout::{Geometry, Kind, Table};
 
@@ -95,18 +96,4 @@ fn write_kind<D: Device>(
         Err(DiskNo::NoMemory) => Err(AccessNo::NoMemory),
         Err(_) => Err(AccessNo::Failed),
     }
-}
-
-// The block of a table.
-fn block_of(table: &Packed<4>) -> Block
-    ensures bytes { result.0 ≡ packed_bytes 4 table.now }
-    ensures block { IsBlock result.0 }
-{
-    copy(table).into_block()
-}
-
-fn copy(table: &Packed<4>) -> Packed<4>
-    ensures { result ≡ table.now }
-{
-    table.clone().unwrap()
 }

@@ -1,11 +1,13 @@
-//! Tests of the check of a volume, of its opening and of its tables: what no clause says, and volumes that
-//! are built by hand. They stand in one crate, so that the crates below are proved once.
+//! Tests of the check of a volume, of its opening, of its tables and of records made in them: what no clause
+//! says, and volumes that are built by hand. They stand in one crate, so that the crates below are proved once.
 #![tactic(auto)]
 
 #[cfg(test)]
 mod faults;
 #[cfg(test)]
 mod openings;
+#[cfg(test)]
+mod records;
 #[cfg(test)]
 mod tables;
 #[cfg(test)]

@@ -30,8 +30,9 @@ use Rattle.volume_faults.specs.Sites.{IsChecked, IsOfKind, IsRight, Site}
 use Rattle.volume_faults.specs.Sites.Site.{Superblock, Size, Block, LockKey, RecordKey, RecordEdit, CountOf, PointerOf}
 use Rattle.volume_faults.specs.Faults.{IsOfStage, IsPassed}
 use Rattle.volume_faults.specs.Readable.{IsReadable}
-use Rattle.volume_tables.specs.Tables.{IsPackingOf, IsSpelledTable, IsTableOf, Turns}
-use Rattle.volume_tables.specs.laws.NumberLaws.{field-number_in, spelled_table}
+use Rattle.table_blocks.specs.Tables.{IsPackingOf, IsSpelledTable, IsTableOf}
+use Rattle.table_blocks.specs.laws.NumberLaws.{field-number_in, spelled_table}
+use Rattle.volume_tables.specs.Turns.{Turns}
 
 -- the image with the table written that a packing spells
 abbrev pub with_table : Geometry → Image → Table → Packing → Image

@@ -7,11 +7,10 @@ ghost use Rattle.vol_layout.specs.Regions.{total};
 use shared_disk::{Device, MemDisk};
 use std::alloc::Global;
 use std::test::Fail;
+use table_blocks::{number, set_number};
 use vol_base::{Block, DataNo, Key, NoMemory, Packed};
 use vol_layout::{Field, Geometry, Table};
-use volume_tables::{
-    AccessNo, lowest_free, number, read_number, read_table, set_number, write_number, write_table,
-};
+use volume_tables::{AccessNo, lowest_free, read_number, read_table, write_number, write_table};
 
 // File table 7, group tables 8 and 9, part table 10, data blocks from 14 on.
 const SMALL: Geometry = Geometry {

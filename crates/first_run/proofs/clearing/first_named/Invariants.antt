@@ -1,6 +1,6 @@
 use Rattle.std.proofs.Common.{◌≡◌, ◌≤◌, ◌<◌, ℕ}
 use Rattle.vol_layout.specs.declared.field.Field.TheVariants.{Pointer}
-use Rattle.volume_tables.specs.Tables.{number_in}
+use Rattle.table_blocks.specs.Tables.{number_in}
 use Rattle.first_run.proofs.clearing.first_named.Given as goal
 
 abbrev pub invariant-loop-index : goal.invariant-loop-index

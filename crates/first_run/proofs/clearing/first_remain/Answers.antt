@@ -1,7 +1,7 @@
 use Rattle.std.proofs.Common.{sym, ap, subst, ◌∙◌, arith}
 use Rattle.std.specs.Prelude.{IfSome}
 use Rattle.shared_disk.specs.State.{State}
-use Rattle.volume_tables.specs.Tables.{IsTableOf}
+use Rattle.table_blocks.specs.Tables.{IsTableOf}
 use Rattle.first_run.specs.Halts.{TellsReadable}
 use Rattle.first_run.proofs.PointerBlocks.{limit-small, same-block}
 use Rattle.first_run.proofs.RefusedLaws.{refused-since}

@@ -1,7 +1,7 @@
 use Rattle.std.proofs.Common.{subst}
 use Rattle.std.specs.Prelude.{IfSome}
 use Rattle.vol_layout.specs.declared.kind.Table.{Table}
-use Rattle.volume_tables.specs.Tables.{IsTableOf}
+use Rattle.table_blocks.specs.Tables.{IsTableOf}
 use Rattle.first_run.proofs.StoredLaws.{number_read, refused_read}
 use Rattle.first_run.proofs.numbers.load.Goals as goal
 

@@ -3,7 +3,7 @@ use Rattle.std.specs.Prelude.{IfSome}
 use Rattle.shared_disk.specs.State.{State}
 use Rattle.vol_layout.specs.Ranges.{per_table}
 use Rattle.vol_layout.specs.declared.kind.Table.TheVariants as tables
-use Rattle.volume_tables.specs.Tables.{IsTableOf}
+use Rattle.table_blocks.specs.Tables.{IsTableOf}
 use Rattle.volume_tables.proofs.FreeLaws.{free_found, has_count, none_free, none_later}
 use Rattle.volume_tables.proofs.free.lowest_free.Goals as goal
 

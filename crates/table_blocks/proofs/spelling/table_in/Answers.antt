@@ -1,8 +1,8 @@
 use Rattle.std.proofs.Common.{sym, subst, List, ℕ}
 use Rattle.std.proofs.lemmas.Option.{IfSome_then}
 use Rattle.vol_base.specs.Packing.{IsPacked}
-use Rattle.volume_tables.proofs.ReadLaws.{has_magic, some_is_not_none, table_read}
-use Rattle.volume_tables.proofs.reading.table_in.Goals as goal
+use Rattle.table_blocks.proofs.SpelledLaws.{has_magic, some_is_not_none, table_read}
+use Rattle.table_blocks.proofs.spelling.table_in.Goals as goal
 
 pub returns-then-is_of_kind-clause-packing : goal.returns-then-is_of_kind-clause-packing
 returns-then-is_of_kind-clause-packing c =

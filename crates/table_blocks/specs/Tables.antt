@@ -1,14 +1,12 @@
 -- What a table block says: the packing that it spells, and the numbers of its fields.
-use Rattle.std.specs.Prelude.{◌≡◌, ℕ, List, All, Option, Some, None, length, slice_index, slice_set}
+use Rattle.std.specs.Prelude.{◌≡◌, ℕ, Option, Some, None, length, slice_index, slice_set}
 use Rattle.vol_base.specs.Bytes.{bytes_of}
 use Rattle.vol_base.specs.Packing.{IsPacking, Packing, numbers, packed_bytes}
 use Rattle.vol_layout.specs.declared.geometry.Geometry.{Geometry}
 use Rattle.vol_layout.specs.declared.kind.Kind.TheVariants as kinds
 use Rattle.vol_layout.specs.declared.kind.Table.{Table}
 use Rattle.vol_layout.specs.declared.field.Field.{Field}
-use Rattle.vol_layout.specs.declared.field.Edit.{Edit}
 use Rattle.vol_layout.specs.Blank.{table_magic}
-use Rattle.vol_layout.specs.Edits.{edited}
 use Rattle.vol_layout.specs.Fields.{HasField, IsInRange, entry_of, table_of}
 use Rattle.vol_layout.specs.Ranges.{per_table}
 use Rattle.image_view.specs.Images.{Image, block_at}
@@ -49,9 +47,3 @@ pub record IsTableOf (g : Geometry) (image : Image) (t : Table) (p : Packing) : 
 -- the table of an image is a spelling in range
 abbrev pub IsSpelledTable : Geometry → Image → Table → Type 0
 IsSpelledTable g image t = IsTable t (block_at g image (kinds.Table t)) × HasNumbers g t (block_at g image (kinds.Table t))
-
--- the second packing of a table has the numbers of the first one with the edits made, which are all of
--- fields of this table
-pub record Turns (g : Geometry) (t : Table) (es : List Edit) (old new : Packing) : Type 0 where
-  pub inside : All (λ e. table_of e.field ≡ t) es
-  pub numbers : (x : Field) → HasField g x → table_of x ≡ t → number_in new x ≡ edited es x (number_in old x)

@@ -1,9 +1,10 @@
 -- The numbers of fields in the packing of a table, and what a change of one leaves.
-use Rattle.std.proofs.Common.{◌≡◌, ◌≢◌, ◌<◌, ◌/◌, ◌%◌, ◌^◌, ◌==◌, ℕ, List, [], ◌∷◌, Option, Some, None, length, refl, sym, ap, ◌∙◌, subst, arith, inl, inr, get_or-set_other, get_or-set_same}
+use Rattle.std.proofs.Common.{◌≡◌, ◌≢◌, ◌<◌, ◌≤◌, ◌*◌, ◌/◌, ◌%◌, ◌^◌, ◌==◌, ℕ, List, [], Option, Some, None, length, refl, sym, ap, ◌∙◌, subst, arith, inl, inr, get_or-set_other, get_or-set_same}
 use Rattle.std.specs.Prelude.{slice_index}
 use Rattle.std.proofs.lemmas.Bool.{cases_Bool, eqb-true}
 use Rattle.std.proofs.lemmas.List.{length-map, length-set, map-set}
-use Rattle.std.proofs.lemmas.List.Elements.{All-cons, All-nil, All-set}
+use Rattle.std.proofs.lemmas.List.Elements.{All-set}
+use Rattle.std.proofs.lemmas.Nat.{mul-le}
 use Rattle.vol_base.specs.Bytes.{IsBlock, bytes_of, u32_at}
 use Rattle.vol_base.specs.laws.BytesLaws.{length-bytes_of, number_at-last}
 use Rattle.vol_base.specs.Packing.{IsPacking, Packing, numbers, packed_bytes}
@@ -13,16 +14,15 @@ use Rattle.vol_layout.specs.declared.kind.Table.{Table}
 use Rattle.vol_layout.specs.declared.kind.Table.TheVariants as tables
 use Rattle.vol_layout.specs.declared.field.Field.{Field}
 use Rattle.vol_layout.specs.declared.field.Field.TheVariants.{Head, Pointer, Slot, Count}
-use Rattle.vol_layout.specs.declared.field.Edit.{Edit}
 use Rattle.vol_layout.specs.laws.EditLaws.{other_field, same_field-is}
-use Rattle.vol_layout.specs.Edits.{edited, same_field}
-use Rattle.vol_layout.specs.Fields.{IsInRange, byte_of, entry_of, table_of}
-use Rattle.vol_layout.specs.Ranges.{per_table}
+use Rattle.vol_layout.specs.Edits.{same_field}
+use Rattle.vol_layout.specs.Fields.{IsInRange, byte_of, entry_of, greatest_count, table_of}
+use Rattle.vol_layout.specs.Ranges.{IsGeometry, data_blocks, limit, per_table}
 use Rattle.image_view.specs.Images.{Image}
 use Rattle.image_view.specs.Numbers.{field}
 use Rattle.image_view.specs.Spelled.{IsTable, MayHaveWord}
 use Rattle.volume_faults.specs.Sites.{HasNumbers}
-use Rattle.volume_tables.specs.Tables.{IsPackingOf, IsTableOf, Turns, number_at_entry, number_in, with_entry, with_number}
+use Rattle.table_blocks.specs.Tables.{IsPackingOf, IsTableOf, number_at_entry, number_in, with_entry, with_number}
 
 -- an entry is one of the table
 pub entry_fits : (n : ℕ) → n % per_table < per_table
@@ -156,26 +156,19 @@ pub number_in-other : (p : Packing) (x y : Field) (n : ℕ) → table_of x ≡ t
     → number_in (with_number p x n) y ≡ number_in p y
 number_in-other p x y n table ne = other_entry p (entry_of x) (entry_of y) n (λ entry. ne (same_place x y table entry))
 
--- no change is no edit, and a changed field is one edit more
-pub Turns-none : (g : Geometry) (t : Table) (p : Packing) → Turns g t [] p p
-Turns-none g t p = record { inside = All-nil (λ (e : Edit). table_of e.field ≡ t); numbers = λ x has at. refl }
+-- a number that may stand in a field fits four bytes
+greatest : (g : Geometry) → IsGeometry g → greatest_count g < 2 ^ 32
+unfolding greatest_count per_table
+greatest g of =
+    let tables : g.files * g.tables ≤ 64 * 16 = mul-le g.files g.tables 64 16 of.files.1 of.tables.1 in
+    elim (cases_Bool (g.tables == 1)) [ inl one ↦ rw one (omega arith) | inr more ↦ rw more (omega (arith, tables, of.parts.1)) ]
 
-edited_numbers : (es : List Edit) (p q : Packing) (x y : Field) (n : ℕ) → table_of x ≡ table_of y → n < 2 ^ 32
-    → length q.entries ≡ per_table → number_in q y ≡ edited es y (number_in p y)
-    → number_in (with_number q x n) y ≡ edited (record { field = x; number = n } ∷ es) y (number_in p y)
-edited_numbers es p q x y n table small whole was =
-    elim (cases_Bool (same_field x y)) [
-      | inl here ↦ rw here (subst (λ (z : Field). number_in (with_number q x n) z ≡ n) (same_field-is x y here) (number_in-with_number q x n small whole))
-      | inr other ↦ rw other (number_in-other q x y n table (other_field x y other) ∙ was)
-    ]
-
-pub Turns-set : (g : Geometry) (t : Table) (es : List Edit) (p q : Packing) (x : Field) (n : ℕ) → Turns g t es p q → table_of x ≡ t
-    → n < 2 ^ 32 → length q.entries ≡ per_table
-    → Turns g t (record { field = x; number = n } ∷ es) p (with_number q x n)
-Turns-set g t es p q x n was at small whole = record {
-  inside = All-cons (λ (e : Edit). table_of e.field ≡ t) (record { field = x; number = n }) es at was.inside;
-  numbers = λ y has there. edited_numbers es p q x y n (at ∙ sym there) small whole (was.numbers y has there);
-}
+pub in_range-small : (g : Geometry) (x : Field) (n : ℕ) → IsGeometry g → IsInRange g x n → n < 2 ^ 32
+unfolding limit data_blocks per_table
+in_range-small g (Head f) n of in_range = omega (arith, of.tables.1, in_range)
+in_range-small g (Pointer f i) n of in_range = in_range.width
+in_range-small g (Slot s) n of in_range = omega (arith, of.groups.1, in_range)
+in_range-small g (Count d) n of in_range = let most = greatest g of in omega (arith, most, in_range)
 
 -- a packing with another number of one field is one that the table may spell, if the number may stand there
 fits_with : (p : Packing) (at : Option ℕ) (n : ℕ) → n < 2 ^ 32 → IsPacking 4 p → IsPacking 4 (with_entry p at n)

@@ -1,7 +1,7 @@
 // The numbers of fields in the packing of their table.
 ghost use Rattle.std.specs.Prelude.{◌≡◌, length};
 ghost use Rattle.vol_layout.specs.Ranges.{per_table};
-ghost use Rattle.volume_tables.specs.Tables.{number_in, with_number};
+ghost use Rattle.table_blocks.specs.Tables.{number_in, with_number};
 
 use vol_base::Packed;
 use vol_layout::Field;

@@ -1,0 +1,2 @@
+mod MakingLaws
+mod SpelledLaws
