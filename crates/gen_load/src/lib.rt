@@ -5,7 +5,7 @@
 //!
 //! - `gen_text`: exactly the text of so many rounds, by the five rules of `docs/COMMANDS.md` ("The generated workload"); it asks
 //!   for 1 to 100 rounds.
-//! - Tested: how the texts of 1, 9, 10, 40 and 100 rounds begin and end; that each is in the workload language; and their counts
+//! - Tested: how the texts of 1, 10 and 40 rounds begin and end; that each is in the workload language; and their counts
 //!   of commands, places, contents and contents of host 0 alone (1,820, 1,600, 101 and 101 for 40 rounds). No clause says that
 //!   the text is in the workload language.
 #![tactic(auto)]

@@ -13,7 +13,7 @@
 //!   range (`reads_in_range`), and what is written for an entry in range reads as it (`reads_back`).
 //! - `shard_of`: exactly the big-endian number in the first four bytes of the digest, modulo the number of shards.
 //! - `Hints` is generic over the kind of entry, by one proof. No call takes memory.
-//! - Tested: each bound of each kind, on volumes of both versions, the block of all ones, and count 127.
+//! - Tested: an entry of each kind, the bounds of a log's on volumes of both versions, the block of all ones, and count 127.
 #![tactic(auto)]
 
 mod entry;

@@ -32,6 +32,7 @@ fn texts_and_their_counts(rt: HostRuntime) -> Result<(), Fail> {
     let rows = [
         (1, "3\n", "3 write 7 2 37\n3 read 3 0\n", (88, 40, 23, 10)),
         (10, "30\n", "3 read 3 27\n3 log\n", (488, 400, 101, 100)),
+        (40, "120\n", "3 read 3 117\n3 log\n", (1820, 1600, 101, 101)),
     ];
     for (rounds, blocks, last, want) in rows {
         let text = gen_text(rt.alloc(), rounds)?;

@@ -10,7 +10,7 @@
 //!   numbers from 0 in the order of the list (`new`).
 //! - A seat may go to another thread where its value may, and threads may share a lock: `TurnSeat<T>` is `Send` and `TurnLock<T>` is
 //!   `Sync` where `T` is `Send`.
-//! - Tested: two seats in one thread, one after the other, and two threads of 100 holds each.
+//! - Tested: two seats in one thread, one after the other. `lock_bench` and the hosts of `thread_tests` take it in threads.
 //! - Not claimed: that a thread ever gets the value, fairness, order, or freedom from deadlock.
 #![tactic(auto)]
 
