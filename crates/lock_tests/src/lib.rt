@@ -1,5 +1,5 @@
-//! Tests of the locks and of the store under them: two hosts and one volume. They stand in one crate, so that the crates below are
-//! proved once.
+//! Tests of the locks, of the store under them, and of the world over them: two hosts and one volume. They stand in one crate, so that
+//! the crates below are proved once.
 #![tactic(auto)]
 
 #[cfg(test)]
@@ -11,6 +11,18 @@ mod files;
 #[cfg(test)]
 mod hosts;
 #[cfg(test)]
+mod rewrites;
+#[cfg(test)]
+mod spoiled;
+#[cfg(test)]
+mod stops;
+#[cfg(test)]
 mod store;
 #[cfg(test)]
 mod untold;
+#[cfg(test)]
+mod world_blocks;
+#[cfg(test)]
+mod world_tables;
+#[cfg(test)]
+mod worlds;

@@ -5,7 +5,7 @@ use Rattle.std.proofs.lemmas.List.{get_or_past}
 use Rattle.std.proofs.lemmas.List.Elements.{Contains-get_or}
 use Rattle.vol_layout.specs.declared.kind.Resource.{Resource}
 use Rattle.lock_store.specs.declared.host.HostState.{HostState}
-use Rattle.lock_store.specs.Memories.{claim_of, holds, index_of}
+use Rattle.lock_store.specs.Memories.{claim_of, index_of}
 use Rattle.lock_store.specs.Views.{host_at}
 use Rattle.disk_locks.specs.Freeing.{MayFreeSlot}
 use Rattle.lock_tests.proofs.hosts.Hosts.leave.Goals as goal

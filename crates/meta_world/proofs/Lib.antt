@@ -1,0 +1,10 @@
+pub mod Bad
+pub mod Commits
+pub mod Gets
+pub mod HintPlaces
+pub mod HintWrites
+pub mod KnownReads
+pub mod OwnWrites
+pub mod Puts
+pub mod Sures
+pub mod TableSures

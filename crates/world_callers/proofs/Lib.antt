@@ -1,0 +1,4 @@
+pub mod DropSure
+pub mod OwnShown
+pub mod ReplayLaws
+pub mod TablesKept

@@ -1,0 +1,3 @@
+pub mod Punches
+pub mod Replays
+pub mod Rewrites
