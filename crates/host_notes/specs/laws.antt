@@ -1,0 +1,15 @@
+pub mod BlockMemories
+pub mod CutLaws
+pub mod FileEndings
+pub mod KeyMemories
+pub mod LockMemories
+pub mod LockRights
+pub mod NotedLaws
+pub mod OtherRights
+pub mod OwesLaws
+pub mod QuietMemories
+pub mod ShownLaws
+pub mod SlotMemories
+pub mod SlotRights
+pub mod TryLaws
+pub mod TurnLaws

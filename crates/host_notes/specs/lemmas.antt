@@ -1,0 +1,9 @@
+pub mod CallMarks
+pub mod Dropped
+pub mod Lists
+pub mod LockNotes
+pub mod OwnKeys
+pub mod PlainKinds
+pub mod SlotNotes
+pub mod Words
+pub mod WrittenBlocks
