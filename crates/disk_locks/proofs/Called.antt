@@ -109,6 +109,7 @@ dropped_memory hosts counter h = record {
   keyless = λ e. refl;
   unclaimed = λ e y. none_claimed y;
   out = λ out r. rw (none_held r, none_read r) refl;
+  own = λ e. none_claimed h;
   gone = λ e. refl;
 }
 

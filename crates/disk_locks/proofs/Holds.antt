@@ -74,6 +74,7 @@ renoted g hosts counter h r m n is joined same held reading claims =
         keyless = λ e. same.joined ∙ is.keyless (sym same.key ∙ e);
         unclaimed = λ e y. same.claims_same y ∙ is.unclaimed (sym same.key ∙ e) y;
         out = λ out. absurd (clash n.joined stays out);
+        own = λ j. same.claims_same h ∙ is.own joined;
         gone = λ gone. same.joined ∙ is.gone (sym same.freed ∙ gone);
       };
       moves = moves_same counter m n same.key (λ e. inl stays) (λ e. same.freed ∙ e);

@@ -162,6 +162,6 @@ module _ (v : LocksView) (h : ℕ) (m : HostState) (r : Resource) (from to : Loc
     frame = frame_lock v.geometry (keys_of v) h r (host_at v h) m image moves.same;
     agree = other_lock;
     keeps = λ x ne named here. keeps_host v.geometry (counter_of v) x (host_at v x) (kinds.Lock r) (lock_bytes to) image ground.agrees.valid tt has
-        ((ground.memories x).named named).0 (λ y below claim. λ e. cc);
+        ((ground.memories x).named named).0 (λ y below claim. λ e. cc) (λ e. absurd (let bad : ⊥ = cc in bad));
     fades = fades_lock;
   })

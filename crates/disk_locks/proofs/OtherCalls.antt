@@ -99,6 +99,7 @@ register_law v h (Ok key) w is below none device did =
       keyless = λ e. absurd (some e);
       unclaimed = λ e. absurd (some e);
       out = λ e r. registered_out key r;
+      own = λ e. dropped_fresh.claims_none h;
       gone = λ e. dropped_fresh.out;
     })
     (record { joined = λ e named. absurd (named none); freed = λ e named. absurd (named none); fresh = λ ne. inr (omega (arith, parts.0)) })

@@ -33,7 +33,7 @@ use Rattle.disk_locks.specs.laws.HeldLaws.{readable_alone}
 use Rattle.disk_locks.proofs.Ground.{Ground, keys_apart}
 use Rattle.disk_locks.proofs.SlotFrames.{live_alone}
 use Rattle.disk_locks.proofs.Steps.{StepImage}
-use Rattle.disk_locks.proofs.Written.{fades_kept, written_step}
+use Rattle.disk_locks.proofs.Written.{fades_kept, free_kept, written_step}
 
 -- such a block says nothing of locks and slots
 writable_agrees : (g : Geometry) (keys : List ℕ) (x : ℕ) (m : HostState) (kind : Kind) (block : List ℕ) → IsWritable g kind → BlockAgrees keys x m kind block
@@ -186,6 +186,7 @@ module _ (v : LocksView) (h : ℕ) (kind : Kind) (block : List ℕ) (image : Ima
                 ],
                 λ untouched. same (kinds.Number d) count (λ e. may.no_slot d (sym e) s has (slot_logical s d has group holds_it names untouched)),
               );
+          left = λ gone free. free_kept g image (written g image kind block) x (same (kinds.Slot x) below (no_slot g kind is x)) free;
           dead = λ y lt claim. slot_key_kept g image (written g image kind block) kind y only lt (no_slot g kind is y);
           standing = λ y lt claim. same (kinds.Journal y) lt (λ e. elim (may.journal y (sym e)) [
             | inl own ↦ named (sym (claim_by x y named here lt claim) ∙ ap (λ n. by_in (block_at g image (kinds.Slot n))) own.0

@@ -96,6 +96,7 @@ keeps_all g x m image = record {
   content = λ f d has has' may share. refl;
   fresh = λ d has may none. refl;
   slots = λ s d has held is. (is, λ none. refl);
+  left = λ gone free. free;
   dead = λ y below claim. refl;
   standing = λ y below claim. refl;
   replayed = λ y f has below claim touched. refl;

@@ -38,7 +38,7 @@ use Rattle.disk_locks.specs.laws.GivenLaws.{slot_given, slot_places}
 use Rattle.disk_locks.proofs.Ground.{Ground, live_shown}
 use Rattle.disk_locks.proofs.Holds.{clash}
 use Rattle.disk_locks.proofs.LockCalls.{own_word}
-use Rattle.disk_locks.proofs.SlotFrames.{frame_slots, free_unneeded, live_alone, reads_alike, shown_host, shown_is}
+use Rattle.disk_locks.proofs.SlotFrames.{frame_slots, free_keyless, free_unneeded, live_alone, reads_alike, shown_host, shown_is}
 use Rattle.disk_locks.proofs.SlotSteps.{SlotMoves, slot_step}
 use Rattle.disk_locks.proofs.Steps.{Moves, StepImage}
 
@@ -148,6 +148,7 @@ module _ (v : LocksView) (h : ℕ) (is : Consistent v) (below : h < v.geometry.h
         keyless = λ e. absurd (some e);
         unclaimed = λ e. absurd (some e);
         out = λ e. absurd (let bad : ⊥ = cc in bad);
+        own = λ e. unclaimed;
         gone = λ e. absurd (clash (host_at v h).freed e stays);
       }) (moves_same (counter_of v) (host_at v h) m refl (λ e. inl refl) (λ e. e))
       (λ here. told_map (told_of v) (λ t. slot_key from ≢ 0 → IsUnneeded v.geometry t.image h) (λ t. OwesSlot v h m h from to t.image) (unneeded here) (λ t un ground stands. record {
@@ -158,6 +159,7 @@ module _ (v : LocksView) (h : ℕ) (is : Consistent v) (below : h < v.geometry.h
         by = inl refl;
         by_before = enter_by (keys_of v) (key_at v h) (claim_of (host_at v h) h) from may;
         shown_before = inl refl;
+        stays_free = λ other. absurd (other refl);
         needed = inr (unneeded_from t.image from slot ground stands un);
         own = record {
           mine = λ e. refl;
@@ -170,7 +172,7 @@ module _ (v : LocksView) (h : ℕ) (is : Consistent v) (below : h < v.geometry.h
           key = refl;
           here = inl refl;
           claims_same = λ z ne. get_or-set_other (host_at v h).claims h z 0 0 ne;
-          holds_same = λ q. refl;
+          holds_same = λ q has'. refl;
           reads_same = λ q. inl (reads_alike (host_at v h) m refl q);
           freed = λ e. e;
         });
@@ -196,6 +198,8 @@ module _ (v : LocksView) (h : ℕ) (is : Consistent v) (below : h < v.geometry.h
         keyless = was.keyless;
         unclaimed = λ e. absurd (some e);
         out = λ e r. ap₂ ◌||◌ refl (reads_alike (host_at v h) m refl r) ∙ was.out e r;
+        own = λ joined. get_or-set_other (host_at v h).claims y h (slot_key from) 0 (λ e. clash (host_at v h).joined joined (own_out (sym e)))
+            ∙ was.own joined;
         gone = was.gone;
       }) (moves_same (counter_of v) (host_at v h) m refl (stays_in (host_at v h)) (λ e. e))
       (λ here. told_map (told_of v) (λ t. IsOut (keys_of v) from) (λ t. OwesSlot v h m y from to t.image) (fenced here) (λ t out ground stands.
@@ -211,6 +215,7 @@ module _ (v : LocksView) (h : ℕ) (is : Consistent v) (below : h < v.geometry.h
         by = inr refl;
         by_before = out_by (keys_of v) (key_at v h) from out;
         shown_before = inr off;
+        stays_free = λ other free. absurd (named (free_keyless from free));
         needed = inl refl;
         own = record {
           mine = λ e. absurd (off (subst (λ k. Contains (keys_of v) k) (sym e ∙ now.shown) here));
@@ -223,7 +228,7 @@ module _ (v : LocksView) (h : ℕ) (is : Consistent v) (below : h < v.geometry.h
           key = refl;
           here = inr (refl, refl);
           claims_same = λ z ne. get_or-set_other (host_at v h).claims y z (slot_key from) 0 ne;
-          holds_same = λ q. refl;
+          holds_same = λ q has'. refl;
           reads_same = λ q. inl (reads_alike (host_at v h) m refl q);
           freed = λ e. e;
         });
@@ -249,6 +254,7 @@ module _ (v : LocksView) (h : ℕ) (is : Consistent v) (below : h < v.geometry.h
         keyless = was.keyless;
         unclaimed = was.unclaimed;
         out = λ e. absurd (clash (host_at v h).joined joined e);
+        own = was.own;
         gone = was.gone;
       }) (moves_same (counter_of v) (host_at v h) m refl (stays_in (host_at v h)) (λ e. e))
       (told_map (told_of v) (λ t. Ground v h t.image) _ (grounded v h is here some) (λ t ground.
@@ -268,6 +274,7 @@ module _ (v : LocksView) (h : ℕ) (is : Consistent v) (below : h < v.geometry.h
         by = inl refl;
         by_before = inl alone;
         shown_before = inl refl;
+        stays_free = λ other. absurd (other refl);
         needed = inl (sym its);
         own = record {
           mine = λ e. joined;
@@ -280,7 +287,7 @@ module _ (v : LocksView) (h : ℕ) (is : Consistent v) (below : h < v.geometry.h
           key = refl;
           here = inl refl;
           claims_same = λ z ne. refl;
-          holds_same = λ q. refl;
+          holds_same = λ q has'. refl;
           reads_same = λ q. inl (reads_alike (host_at v h) m refl q);
           freed = λ e. e;
         });

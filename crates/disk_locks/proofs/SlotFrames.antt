@@ -6,11 +6,11 @@ use Rattle.vol_layout.specs.declared.kind.Kind.{Kind}
 use Rattle.vol_layout.specs.declared.kind.Kind.TheVariants as kinds
 use Rattle.vol_layout.specs.declared.kind.Resource.{Resource}
 use Rattle.vol_layout.specs.declared.kind.Resource.TheVariants.{File, Group, Part}
-use Rattle.vol_layout.specs.Ranges.{HasKind}
+use Rattle.vol_layout.specs.Ranges.{HasKind, HasResource}
 use Rattle.slot_lock_blocks.specs.declared.slot.Slot.{Slot}
 use Rattle.slot_lock_blocks.specs.declared.slot.Slot.TheVariants.{Free, Live, Recovering}
 use Rattle.slot_lock_blocks.specs.Keys.{IsKey}
-use Rattle.slot_lock_blocks.specs.Slots.{IsSlot, slot_key, slot_second}
+use Rattle.slot_lock_blocks.specs.Slots.{IsSlot, slot_key, slot_second, slot_state}
 use Rattle.image_view.specs.HostKeys.{slot_key_at}
 use Rattle.image_view.specs.Images.{Image, block_at}
 use Rattle.image_view.specs.Numbers.{journal}
@@ -29,7 +29,7 @@ pub record SameSlots (g : Geometry) (h y : ℕ) (m n : HostState) : Type 0 where
   pub key : key_of n ≡ key_of m
   pub here : (y ≡ h) ⊎ ((n.joined ≡ m.joined) × (n.beat ≡ m.beat))
   pub claims_same : (z : ℕ) → z ≢ y → claim_of n z ≡ claim_of m z
-  pub holds_same : (q : Resource) → holds n q ≡ holds m q
+  pub holds_same : (q : Resource) → HasResource g q → holds n q ≡ holds m q
   pub reads_same : (q : Resource) → (reads n q ≡ reads m q) ⊎ ((n.freed ≡ true) × (reads n q ≡ false))
   pub freed : m.freed ≡ true → n.freed ≡ true
 
@@ -66,12 +66,12 @@ frame_slots g counter keys h y m n image valid some host same (kinds.Journal z) 
 frame_slots g counter keys h y m n image valid some host same (kinds.Lock q) has ne a =
     let was = λ (here : Contains keys (key_of n)). subst (λ k. Contains keys k) same.key here in
     record {
-      mine = λ e. same.holds_same q ∙ a.mine (e ∙ same.key);
+      mine = λ e. same.holds_same q has ∙ a.mine (e ∙ same.key);
       read_mine = λ e. elim (a.read_mine (e ∙ same.key)) [
         | inl is ↦ elim (same.reads_same q) [ inl kept ↦ inl (kept ∙ is) | inr gone ↦ inr gone.0 ]
         | inr freed ↦ inr (same.freed freed)
       ];
-      held = λ here is. a.held (was here) (sym (same.holds_same q) ∙ is) ∙ sym same.key;
+      held = λ here is. a.held (was here) (sym (same.holds_same q has) ∙ is) ∙ sym same.key;
       read = λ here is. elim (same.reads_same q) [
         | inl kept ↦ a.read (was here) (sym kept ∙ is) ∙ sym same.key
         | inr gone ↦ absurd (clash (reads n q) is gone.1)
@@ -110,6 +110,12 @@ pub second_small : (slot : Slot) → IsSlot slot → slot_second slot < 2 ^ 64
 second_small Free is = omega arith
 second_small (Live key beat) is = is.1
 second_small (Recovering key by) is = is.1.1
+
+-- a free slot shows no key
+pub free_keyless : (slot : Slot) → slot_state slot ≡ 0 → slot_key slot ≡ 0
+free_keyless Free free = refl
+free_keyless (Live key beat) free = absurd (let bad : ⊥ = cc in bad)
+free_keyless (Recovering key by) free = absurd (let bad : ⊥ = cc in bad)
 
 -- a live slot is recovered by nobody
 pub live_alone : (slot : Slot) → slot_live slot ≢ 0 → slot_by slot ≡ 0

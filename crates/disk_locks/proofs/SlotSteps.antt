@@ -1,15 +1,16 @@
 -- Any write of a slot, as a step.
-use Rattle.std.proofs.Common.{◌≡◌, ◌≢◌, ◌⊎◌, ◌<◌, ℕ, refl, sym, ap, ◌∙◌, subst, inl, inr}
+use Rattle.std.proofs.Common.{◌≡◌, ◌≢◌, ◌⊎◌, ◌<◌, ℕ, List, refl, sym, ap, ◌∙◌, subst, inl, inr}
 use Rattle.std.specs.Prelude.{Contains}
-use Rattle.vol_base.specs.Bytes.{u64_at}
+use Rattle.vol_base.specs.Bytes.{u32_at, u64_at}
 use Rattle.vol_layout.specs.declared.kind.Kind.{Kind}
 use Rattle.vol_layout.specs.declared.kind.Kind.TheVariants as kinds
 use Rattle.vol_layout.specs.Ranges.{HasKind}
 use Rattle.slot_lock_blocks.specs.declared.slot.Slot.{Slot}
-use Rattle.slot_lock_blocks.specs.Slots.{IsSlot, slot_bytes, slot_key}
-use Rattle.image_view.specs.HostKeys.{slot_key_at}
+use Rattle.slot_lock_blocks.specs.Slots.{IsSlot, slot_bytes, slot_key, slot_state}
+use Rattle.image_view.specs.HostKeys.{slot_key_at, slot_state_at}
 use Rattle.image_view.specs.Images.{Image, block_at, written}
 use Rattle.image_view.specs.Spelled.{IsSlotOf}
+use Rattle.image_view.specs.laws.FrameLaws.{block_at-written}
 use Rattle.lock_store.specs.declared.host.HostState.{HostState}
 use Rattle.lock_store.specs.Memories.{claim_of}
 use Rattle.lock_store.specs.SlotTries.{slot_by}
@@ -23,8 +24,8 @@ use Rattle.disk_locks.proofs.ValidHost.{valid_slot}
 use Rattle.disk_locks.proofs.Written.{fades_kept, keeps_host, written_step}
 
 -- what a write of slot y from one content to another owes: it shows nothing, the own key or what it showed, has no `by` or the own
--- key, and came from no other registered host's `by` and, where it is another host's, from no registered key; its key stays, or
--- nothing needed it; and the host's memory says the same of the slot
+-- key, and came from no other registered host's `by` and, where it is another host's, from no registered key, and is free where it was
+-- so; its key stays, or nothing needed it; and the host's memory says the same of the slot
 pub record SlotMoves (v : LocksView) (h : ℕ) (m : HostState) (y : ℕ) (from to : Slot) (image : Image) : Type 0 where
   pub slot : IsSlot from
   pub of : IsSlotOf (counter_of v) y (slot_bytes to)
@@ -33,6 +34,7 @@ pub record SlotMoves (v : LocksView) (h : ℕ) (m : HostState) (y : ℕ) (from t
   pub by : (slot_by to ≡ 0) ⊎ (slot_by to ≡ key_at v h)
   pub by_before : (slot_by from ≡ 0) ⊎ ((slot_by from ≡ key_at v h) ⊎ (Contains (keys_of v) (slot_by from) → ⊥))
   pub shown_before : (y ≡ h) ⊎ (Contains (keys_of v) (slot_key from) → ⊥)
+  pub stays_free : y ≢ h → slot_state from ≡ 0 → slot_state to ≡ 0
   pub needed : (slot_key to ≡ slot_key from) ⊎ IsUnneeded v.geometry image y
   pub own : SlotAgrees (keys_of v) h m y (slot_bytes to)
   pub frame : (other : Kind) → HasKind v.geometry other → other ≢ kinds.Slot y
@@ -95,6 +97,19 @@ module _ (v : LocksView) (h : ℕ) (m : HostState) (y : ℕ) (from to : Slot) (i
     | inr un ↦ inr un
   ]
 
+  -- the slot of another host is free where it was
+  free_slot : (x : ℕ) → x ≢ h → x ≡ y → slot_state_at v.geometry image x ≡ 0
+      → slot_state_at v.geometry (written v.geometry image (kinds.Slot y) (slot_bytes to)) x ≡ 0
+  unfolding slot_state_at
+  free_slot x ne e free =
+      let new = written v.geometry image (kinds.Slot y) (slot_bytes to) in
+      let state = λ (b : List ℕ). u32_at b 8 in
+      let was : slot_state from ≡ 0 = sym (slot_places (slot_bytes from) from (moves.slot, refl)).state ∙ ap state (sym stands)
+      ∙ ap (λ k. u32_at (block_at v.geometry image (kinds.Slot k)) 8) (sym e) ∙ free in
+      let now : block_at v.geometry new (kinds.Slot x) ≡ slot_bytes to = ap (λ k. block_at v.geometry new (kinds.Slot k)) e
+      ∙ block_at-written v.geometry image (kinds.Slot y) (slot_bytes to) has ground.agrees.valid.long in
+      ap state now ∙ (slot_places (slot_bytes to) to (moves.to_slot, refl)).state ∙ moves.stays_free (λ own. ne (e ∙ own)) was
+
   pub slot_step : StepImage v.geometry v.disk.state (counter_of v) (keys_of v) v.hosts h m image (written v.geometry image (kinds.Slot y) (slot_bytes to))
   slot_step = written_step v.geometry v.disk.state (counter_of v) (keys_of v) v.hosts h m (kinds.Slot y) (slot_bytes to) image has ground.agrees ground.some (record {
     valid = valid_slot v.geometry (counter_of v) image y (slot_bytes to) ground.agrees.valid has moves.of needed_key;
@@ -102,7 +117,8 @@ module _ (v : LocksView) (h : ℕ) (m : HostState) (y : ℕ) (from to : Slot) (i
     frame = moves.frame;
     agree = other_slot;
     keeps = λ x ne named here. keeps_host v.geometry (counter_of v) x (host_at v x) (kinds.Slot y) (slot_bytes to) image ground.agrees.valid tt has
-        ((ground.memories x).named named).0 (λ z below claim same. unclaimed x ne named here (λ none. claim (ap (claim_of (host_at v x)) (slot_of_kind z same) ∙ none)));
+        ((ground.memories x).named named).0 (λ z below claim same. unclaimed x ne named here (λ none. claim (ap (claim_of (host_at v x)) (slot_of_kind z same) ∙ none)))
+        (λ same. free_slot x ne (slot_of_kind x same));
     fades = fades_kept v.geometry v.disk.state image (kinds.Slot y) (slot_bytes to) has (λ r e. cc);
   })
     where

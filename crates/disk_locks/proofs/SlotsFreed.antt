@@ -6,6 +6,7 @@ use Rattle.std.proofs.lemmas.List.{get_or-set_same, get_or-set_other, length-rep
 use Rattle.std.proofs.lemmas.List.Elements.{All-nil}
 use Rattle.vol_layout.specs.declared.kind.Kind.TheVariants as kinds
 use Rattle.vol_layout.specs.declared.kind.Resource.{Resource}
+use Rattle.vol_layout.specs.Ranges.{HasResource}
 use Rattle.slot_lock_blocks.specs.declared.slot.Slot.TheVariants.{Free, Live, Recovering}
 use Rattle.slot_lock_blocks.specs.Keys.{IsKey}
 use Rattle.slot_lock_blocks.specs.Slots.{slot_bytes, slot_key}
@@ -68,6 +69,8 @@ module _ (v : LocksView) (h : ℕ) (is : Consistent v) (below : h < v.geometry.h
         keyless = was.keyless;
         unclaimed = λ e. absurd (some e);
         out = λ e r. ap₂ ◌||◌ refl (reads_alike (host_at v h) m refl r) ∙ was.out e r;
+        own = λ joined. get_or-set_other (host_at v h).claims y h 0 0 (λ e. clash (host_at v h).joined joined (own_out (sym e)))
+            ∙ was.own joined;
         gone = was.gone;
       }) (moves_same (counter_of v) (host_at v h) m refl (stays_in (host_at v h)) (λ e. e))
       (λ here. told_map (told_of v) (λ t. IsUnneeded v.geometry t.image y) (λ t. OwesSlot v h m y from Free t.image) (unneeded here) (λ t un ground stands.
@@ -85,6 +88,7 @@ module _ (v : LocksView) (h : ℕ) (is : Consistent v) (below : h < v.geometry.h
         by = inl refl;
         by_before = inr (inl refl);
         shown_before = inr (λ present. old.dead here named (subst (λ k. Contains (keys_of v) k) (sym shown) present));
+        stays_free = λ other free. refl;
         needed = inr un;
         own = record {
           mine = λ e. absurd (some (sym e ∙ now.shown));
@@ -97,14 +101,15 @@ module _ (v : LocksView) (h : ℕ) (is : Consistent v) (below : h < v.geometry.h
           key = refl;
           here = inr (refl, refl);
           claims_same = λ z ne. get_or-set_other (host_at v h).claims y z 0 0 ne;
-          holds_same = λ q. refl;
+          holds_same = λ q has'. refl;
           reads_same = λ q. inl (reads_alike (host_at v h) m refl q);
           freed = λ e. e;
         });
       }))
 
   -- the own slot is freed: the host leaves
-  pub leave_law : (result : Result Claim StepNo) → (host_at v h).joined ≡ true → ((r : Resource) → holds (host_at v h) r ≡ false) → claim_of (host_at v h) h ≡ 0
+  pub leave_law : (result : Result Claim StepNo) → (host_at v h).joined ≡ true
+      → ((r : Resource) → HasResource v.geometry r → holds (host_at v h) r ≡ false) → claim_of (host_at v h) h ≡ 0
       → Sure v h (λ image. IsUnneeded v.geometry image h)
       → TriesSlot v h h uses.Clear (Live (key (key_at v h)) (host_at v h).beat) Free (left (host_at v h)) result w → Consistent w × Others h v w
   leave_law result joined none_held unclaimed unneeded did =
@@ -121,6 +126,7 @@ module _ (v : LocksView) (h : ℕ) (is : Consistent v) (below : h < v.geometry.h
         keyless = λ e. refl;
         unclaimed = was.unclaimed;
         out = λ e r. rw (left_holds (host_at v h) r, left_reads (host_at v h) r) refl;
+        own = λ e. unclaimed;
         gone = λ e. refl;
       }) (moves_same (counter_of v) (host_at v h) m refl (λ e. inr refl) (λ e. refl))
       (λ here. told_map (told_of v) (λ t. IsUnneeded v.geometry t.image h) (λ t. OwesSlot v h m h from Free t.image) (unneeded here) (λ t un ground stands.
@@ -137,6 +143,7 @@ module _ (v : LocksView) (h : ℕ) (is : Consistent v) (below : h < v.geometry.h
         by = inl refl;
         by_before = inl refl;
         shown_before = inl refl;
+        stays_free = λ other free. refl;
         needed = inr un;
         own = record {
           mine = λ e. absurd (some (sym e ∙ now.shown));
@@ -149,14 +156,14 @@ module _ (v : LocksView) (h : ℕ) (is : Consistent v) (below : h < v.geometry.h
           key = refl;
           here = inl refl;
           claims_same = λ z ne. refl;
-          holds_same = λ q. left_holds (host_at v h) q ∙ sym (none_held q);
+          holds_same = λ q has. left_holds (host_at v h) q ∙ sym (none_held q has);
           reads_same = λ q. inr (refl, left_reads (host_at v h) q);
           freed = λ e. refl;
         });
       }))
 
   -- a slot is freed
-  pub free_law : (y : ℕ) (result : Result Claim StepNo) → y < v.geometry.hosts → MayFreeSlot y h (host_at v h)
+  pub free_law : (y : ℕ) (result : Result Claim StepNo) → y < v.geometry.hosts → MayFreeSlot v.geometry y h (host_at v h)
       → Sure v h (λ image. IsUnneeded v.geometry image y) → ClearsSlot v h y result w → Consistent w × Others h v w
   free_law y result has (inl claimed) unneeded did =
       let other : (claim_of (host_at v h) y == 0) ≡ false = not_zero (claim_of (host_at v h) y) claimed.0 in

@@ -251,7 +251,7 @@ module _ (v : LocksView) (h : ℕ) (is : Consistent v) (some : key_at v h ≢ 0)
       absurd (other (spells.1 ∙ ap slot_bytes (word ∙ from_is)))) did
 
   -- what the host knows of a slot that it frees stands there
-  known_slot : (y : ℕ) (image : Image) → Ground v h image → h < v.geometry.hosts → y < v.geometry.hosts → MayFreeSlot y h (host_at v h)
+  known_slot : (y : ℕ) (image : Image) → Ground v h image → h < v.geometry.hosts → y < v.geometry.hosts → MayFreeSlot v.geometry y h (host_at v h)
       → block_at v.geometry image (kinds.Slot y) ≡ slot_bytes (slot_of (host_at v h) y)
   known_slot y image ground below has (inl claimed) =
       let l = ground.agrees.valid.slots y has in
@@ -264,7 +264,7 @@ module _ (v : LocksView) (h : ℕ) (is : Consistent v) (some : key_at v h ≢ 0)
       let live = (agree_slot image y ground has).live ground.here own.1 own.0 in
       rw none (l.spelled.1 ∙ ap slot_bytes (live_is l.slot (key_at v h) (host_at v h).beat (sym n.live ∙ live.0) (sym n.second ∙ live.1) some))
 
-  pub freed_law : (y : ℕ) (result : Result Unit StepNo) (w : LocksView) → h < v.geometry.hosts → y < v.geometry.hosts → MayFreeSlot y h (host_at v h)
+  pub freed_law : (y : ℕ) (result : Result Unit StepNo) (w : LocksView) → h < v.geometry.hosts → y < v.geometry.hosts → MayFreeSlot v.geometry y h (host_at v h)
       → FreesSlot v h y result w → IsFreed v h y result w
   freed_law y (Err why) w below has may did = tt
   freed_law y (Ok _) w below has may (inl claimed) = told_map (told_of v) (λ t. Unit {0}) (λ t. ClearsSlot v h y (Ok claim.Claimed) w) (told_unit (told_of v)) (λ t u. claimed)

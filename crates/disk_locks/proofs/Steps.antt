@@ -76,6 +76,7 @@ memory_later hosts counter later h m le was = record {
   keyless = was.keyless;
   unclaimed = was.unclaimed;
   out = was.out;
+  own = was.own;
   gone = was.gone;
 }
 
@@ -196,4 +197,4 @@ module _ (v : LocksView) (h : ℕ) (m : HostState) (w : LocksView) (is : Consist
 
   -- the law of all calls
   pub step_law : Consistent w × Others h v w
-  step_law = (consistent, record { lasts = lasts; keeps = keeps })
+  step_law = (consistent, record { lasts = lasts; memories = step.others; keeps = keeps })

@@ -2,6 +2,7 @@
 use Rattle.std.proofs.Common.{◌≡◌, ◌≢◌, ◌⊎◌, ◌<◌, ◌≤◌, ◌+◌, ℕ, List, length, sym, ap, ◌∙◌, subst, arith, inl, inr}
 use Rattle.std.specs.Prelude.{Contains}
 use Rattle.std.proofs.lemmas.Bool.{cases_eq}
+use Rattle.vol_base.specs.Bytes.{u32_at}
 use Rattle.vol_layout.specs.declared.geometry.Geometry.{Geometry}
 use Rattle.vol_layout.specs.declared.kind.Kind.{Kind}
 use Rattle.vol_layout.specs.declared.kind.Kind.TheVariants as kinds
@@ -13,6 +14,7 @@ use Rattle.vol_layout.specs.Ranges.{HasKind, data_blocks}
 use Rattle.vol_layout.specs.Regions.{total}
 use Rattle.vol_layout.specs.laws.PlaceLaws.{places_apart}
 use Rattle.shared_disk.specs.State.{State}
+use Rattle.image_view.specs.HostKeys.{slot_state_at}
 use Rattle.image_view.specs.Images.{Image, OnlyChanges, block_at, written}
 use Rattle.image_view.specs.Valid.{IsValid}
 use Rattle.image_view.specs.laws.FrameLaws.{HasTable-table_of, block_at-written, field_kept, lock_key_kept, lock_state_kept, logical_kept, slot_key_kept, write_only}
@@ -84,10 +86,18 @@ IsHostKind (kinds.Number d) = ⊥
 pub not_host : (kind other : Kind) → IsHostKind kind → (IsHostKind other → ⊥) → other ≢ kind
 not_host kind other host no_host e = no_host (subst IsHostKind (sym e) host)
 
--- a write of a slot or a lock leaves all that others rely on, where nobody else claimed that slot
+-- a slot whose block stays is free as before
+pub free_kept : (g : Geometry) (old new : Image) (y : ℕ) → block_at g new (kinds.Slot y) ≡ block_at g old (kinds.Slot y)
+    → slot_state_at g old y ≡ 0 → slot_state_at g new y ≡ 0
+unfolding slot_state_at
+free_kept g old new y same free = ap (λ (b : List ℕ). u32_at b 8) same ∙ free
+
+-- a write of a slot or a lock leaves all that others rely on, where nobody else claimed that slot, and where it stays free
 pub keeps_host : (g : Geometry) (counter : ℕ) (x : ℕ) (m : HostState) (kind : Kind) (block : List ℕ) (old : Image) → IsValid g counter old → IsHostKind kind → HasKind g kind → x < g.hosts
-    → ((y : ℕ) → y < g.hosts → claim_of m y ≢ 0 → kinds.Slot y ≢ kind) → KeepsImage g x m old (written g old kind block)
-keeps_host g counter x m kind block old valid host has below apart =
+    → ((y : ℕ) → y < g.hosts → claim_of m y ≢ 0 → kinds.Slot y ≢ kind)
+    → (kinds.Slot x ≡ kind → slot_state_at g old x ≡ 0 → slot_state_at g (written g old kind block) x ≡ 0)
+    → KeepsImage g x m old (written g old kind block)
+keeps_host g counter x m kind block old valid host has below apart stays =
     let new = written g old kind block in
     let only : OnlyChanges g old new kind = write_only g old kind block has in
     let same = λ (other : Kind) (has' : HasKind g other) (no_host : IsHostKind other → ⊥). only other has' (not_host kind other host no_host) in
@@ -101,6 +111,10 @@ keeps_host g counter x m kind block old valid host has below apart =
         field_kept g old new kind (Slot s) only has' (not_host kind (kinds.Table (table_of (Slot s))) host (λ p. p)) ∙ is,
         λ none. let range : d + 1 ≤ data_blocks g = rw is at (valid.numbers (Slot s) has') in same (kinds.Number d) (omega (arith, range)) (λ p. p),
       );
+      left = λ gone free. elim (cases_kind g kind (kinds.Slot x) has below) [
+        | inl e ↦ stays e free
+        | inr ne ↦ free_kept g old new x (only (kinds.Slot x) below ne) free
+      ];
       dead = λ y below' claim. slot_key_kept g old new kind y only below' (apart y below' claim);
       standing = λ y below' claim. same (kinds.Journal y) below' (λ p. p);
       replayed = λ y f has' below' claim touched. same (kinds.Table (table_of f)) (HasTable-table_of g f has') (λ p. p);

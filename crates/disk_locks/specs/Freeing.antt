@@ -33,11 +33,11 @@ pub record IsUnneeded (g : Geometry) (image : Image) (y : ℕ) : Type 0 where
   pub empty : journal g image y ≡ []
   pub unheld : (r : Resource) → HasResource g r → IsHeldBy g image r (slot_key_at g image y) → ⊥
 
--- a host may free a slot that it claimed, or its own one where it is joined and holds nothing
-abbrev pub MayFreeSlot : ℕ → ℕ → HostState → Type 0
-MayFreeSlot y h m =
+-- a host may free a slot that it claimed, or its own one where it is joined and holds nothing of the volume
+abbrev pub MayFreeSlot : Geometry → ℕ → ℕ → HostState → Type 0
+MayFreeSlot g y h m =
     ((claim_of m y ≢ 0) × (y ≡ h → m.joined ≡ false))
-    ⊎ ((y ≡ h) × (m.joined ≡ true) × ((r : Resource) → holds m r ≡ false) × (claim_of m y ≡ 0))
+    ⊎ ((y ≡ h) × (m.joined ≡ true) × ((r : Resource) → HasResource g r → holds m r ≡ false) × (claim_of m y ≡ 0))
 
 -- a host enters its slot from a free one, or from the one that it claimed
 abbrev pub MayEnterFrom : ℕ → ℕ → Slot → Type 0

@@ -31,7 +31,8 @@ pub record Lasts (v w : LocksView) : Type 0 where
   pub ended : (key : ℕ) → HasEnded v key → HasEnded w key
   pub fades : BothTold (told_of v) (told_of w) (Fades v.geometry v.disk.state)
 
--- what a call of one host leaves to all others
+-- what a call of one host leaves to all others: it changes the memory of its own host alone, whether the others have keys or not
 pub record Others (h : ℕ) (v w : LocksView) : Type 0 where
   pub lasts : Lasts v w
+  pub memories : (x : ℕ) → x ≢ h → host_at w x ≡ host_at v x
   pub keeps : (x : ℕ) → x ≢ h → key_at v x ≢ 0 → Keeps x v w

@@ -77,7 +77,7 @@ impl<D: Device> Locks<D> {
         requires host { host < self.old.geometry.hosts }
         requires key { key_at self.old host ≢ 0 }
         requires of { of < self.old.geometry.hosts }
-        requires may { MayFreeSlot of host (host_at self.old host) }
+        requires may { MayFreeSlot self.old.geometry of host (host_at self.old host) }
         requires unneeded { Sure self.old host (λ image. IsUnneeded self.old.geometry image of) }
         ensures did { FreesSlot self.old host of result self.new }
         ensures freed { IsFreed self.old host of result self.new }

@@ -22,8 +22,8 @@
 //! - Where a call changed no slot, no lock and no key (`QuietMemories`): `remembered_quiet`, `remembered_same`; of a refusal
 //!   `remembered_refused`, `remembered_unheard`; of a dropped host `remembered_drop`.
 //! - What the notes then say (`NotedLaws`): the key (`key_noted`, `no_key_noted`), so that a turn is one of its host (`turn_noted`);
-//!   whether a slot is claimed (`claim_noted`, `no_claim_noted`); and that a host which holds nothing, or files alone, has no other
-//!   hold there (`no_hold_noted`, `file_holds_noted`).
+//!   whether a slot is claimed (`claim_noted`, `no_claim_noted`); and that a host which holds nothing of the volume, or files alone, has
+//!   no other hold there (`no_hold_noted`, `file_holds_noted`).
 //! - The turn may make the call, and what it writes (`IsAllowed`). At locks (`LockRights`): `allowed_hold`, `allowed_read`,
 //!   `allowed_write`, `allowed_release`, `allowed_unlock`, `allowed_clear`; a file's lock asks that the command is on that file, and
 //!   that it is tried from the word that was found last. At slots (`SlotRights`): `allowed_beat`, `allowed_enter`, `allowed_claim`,

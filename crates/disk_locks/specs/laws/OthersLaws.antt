@@ -47,6 +47,7 @@ image_then g h m i j k joined_if a b = record {
       let second = b.slots s d has held first.0 in
       let own : journal g j h ≡ journal g i h = ap edits_of (a.record_own (joined_if (Group (d / per_table)) held)) in
       (second.0, λ untouched. second.1 (ap (λ es. touches es (Slot s)) own ∙ untouched) ∙ first.1 untouched);
+  left = λ gone free. b.left gone (a.left gone free);
   dead = λ y below claim. b.dead y below claim ∙ a.dead y below claim;
   standing = λ y below claim. b.standing y below claim ∙ a.standing y below claim;
   replayed = λ y x has below claim touched.
@@ -80,6 +81,7 @@ others_then v u w h is a b = record {
     fades = both_then (told_of v) (told_of u) (told_of w) (Fades v.geometry v.disk.state) (Fades u.geometry u.disk.state) (Fades v.geometry v.disk.state)
         a.lasts.fades b.lasts.fades (λ i j k. fades_then v u i j k a.lasts.geometry a.lasts.off);
   };
+  memories = λ x ne. b.memories x ne ∙ a.memories x ne;
   keeps = λ x ne some.
       let first = a.keeps x ne some in
       let key_same : key_at u x ≡ key_at v x = ap key_of first.memory in

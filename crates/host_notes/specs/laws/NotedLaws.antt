@@ -48,12 +48,12 @@ module _ (g : Geometry) (memory : Memory) (m : HostState) (is : IsRemembered g m
   other_hold : (r : Resource) → HasResource g r → Contains memory.holds (place_of g (kinds.Lock r)) → holds m r ≡ false → ⊥
   other_hold r of has none = true≢false (sym (is.holds r of has) ∙ none)
 
-  -- a host that holds nothing has no hold in its notes, and one that holds no part and no group has those of files alone
-  pub no_hold_noted : ((r : Resource) → holds m r ≡ false) → memory.holds ≡ []
+  -- a host that holds nothing of the volume has no hold in its notes, and one that holds no part and no group has those of files alone
+  pub no_hold_noted : ((r : Resource) → HasResource g r → holds m r ≡ false) → memory.holds ≡ []
   no_hold_noted none = no_element memory.holds (λ place has. at place has (is.places place has))
     where
       at : (place : ℕ) → Contains memory.holds place → (r : Resource) × HasResource g r × (place ≡ place_of g (kinds.Lock r)) → ⊥
-      at place has (r, of, here) = other_hold r of (subst (Contains memory.holds) here has) (none r)
+      at place has (r, of, here) = other_hold r of (subst (Contains memory.holds) here has) (none r of)
 
   pub file_holds_noted : ((r : Resource) → HasResource g r → IsShared r → holds m r ≡ false) → AreFileLocks g memory.holds
   file_holds_noted none place has = let found = is.places place has in at found.0 found.1 found.2

@@ -5,7 +5,7 @@ use Rattle.std.proofs.lemmas.Bool.{eq-eqb, ne_eqb}
 use Rattle.vol_layout.specs.declared.geometry.Geometry.{Geometry}
 use Rattle.vol_layout.specs.declared.kind.Kind.TheVariants as kinds
 use Rattle.vol_layout.specs.declared.kind.Resource.{Resource}
-use Rattle.vol_layout.specs.Ranges.{IsGeometry}
+use Rattle.vol_layout.specs.Ranges.{HasResource, IsGeometry}
 use Rattle.shared_disk.specs.Events.{Done, Shows}
 use Rattle.slot_lock_blocks.specs.declared.slot.Slot.{Slot}
 use Rattle.slot_lock_blocks.specs.declared.slot.Slot.TheVariants as slots
@@ -118,7 +118,7 @@ module _ (v l : LocksView) (h : ℕ) (memory : Memory) (is : IsRemembered v.geom
       block_written v.geometry h (key_at v h) (kinds.Slot y) block memory below n (host_at l h) (did.mine ∙ freed) noted
 
   pub remembered_free_own : Consistent v → h < v.geometry.hosts → (host_at v h).joined ≡ true
-      → ((r : Resource) → holds (host_at v h) r ≡ false) → ClearsSlot v h h (Ok Claimed) l
+      → ((r : Resource) → HasResource v.geometry r → holds (host_at v h) r ≡ false) → ClearsSlot v h h (Ok Claimed) l
       → RemembersCall v h memory (free_call v h h) Done l
   remembered_free_own c below joined none did =
       let own = joined_key v h c joined in
@@ -145,5 +145,6 @@ module _ (v l : LocksView) (h : ℕ) (memory : Memory) (is : IsRemembered v.geom
   remembered_frees_claimed y done c below other claimed did = freed_or_found y done did (remembered_free_claimed y c below other claimed)
 
   pub remembered_frees_own : (done : Unit) → Consistent v → h < v.geometry.hosts → (host_at v h).joined ≡ true
-      → ((r : Resource) → holds (host_at v h) r ≡ false) → FreesSlot v h h (Ok done) l → RemembersMade v h memory (free_call v h h) l
+      → ((r : Resource) → HasResource v.geometry r → holds (host_at v h) r ≡ false) → FreesSlot v h h (Ok done) l
+      → RemembersMade v h memory (free_call v h h) l
   remembered_frees_own done c below joined none did = freed_or_found h done did (remembered_free_own c below joined none)

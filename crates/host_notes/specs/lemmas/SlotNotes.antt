@@ -7,6 +7,7 @@ use Rattle.vol_layout.specs.declared.geometry.Geometry.{Geometry}
 use Rattle.vol_layout.specs.declared.kind.Kind.TheVariants as kinds
 use Rattle.vol_layout.specs.declared.kind.Resource.{Resource}
 use Rattle.vol_layout.specs.Places.{place_of}
+use Rattle.vol_layout.specs.Ranges.{HasResource}
 use Rattle.slot_lock_blocks.specs.declared.slot.Slot.TheVariants.{Free}
 use Rattle.slot_lock_blocks.specs.Slots.{slot_bytes}
 use Rattle.lock_store.specs.declared.host.HostState.{HostState}
@@ -85,16 +86,17 @@ still_unclaimed y m none own = elim (cases_eq (key_of m % 16) y) [
   | inr other ↦ claim_else y 0 (key_of m % 16) m other ∙ own
 ]
 
--- the own slot was freed, under which the host held nothing
-pub own_freed : (g : Geometry) (h : ℕ) (memory : Memory) (m : HostState) → m.key ≢ None → ((r : Resource) → host.holds m r ≡ false)
-    → claim_of m h ≡ 0 → IsRemembered g memory m → IsRemembered g (with_slot h h (slot_bytes Free) memory) (host.left m)
+-- the own slot was freed, under which the host held nothing of the volume
+pub own_freed : (g : Geometry) (h : ℕ) (memory : Memory) (m : HostState) → m.key ≢ None
+    → ((r : Resource) → HasResource g r → host.holds m r ≡ false) → claim_of m h ≡ 0 → IsRemembered g memory m
+    → IsRemembered g (with_slot h h (slot_bytes Free) memory) (host.left m)
 own_freed g h memory m known none unclaimed is =
     let block = slot_bytes Free in
     let state = slot_says Free in
     let freed : frees_own h h block ≡ true = and_from (h == h) (state_in block == 0) (eq-eqb h h refl) (eq-eqb (state_in block) 0 state) in
     record {
       key = is.key;
-      holds = λ r has there. absurd (true≢false (sym (is.holds r has there) ∙ none r));
+      holds = λ r has there. absurd (true≢false (sym (is.holds r has there) ∙ none r has));
       reads = λ r has there. absurd (none_in (place_of g (kinds.Lock r)) [] refl (rw freed at there));
       places = λ place there. is.places place there;
       claims = λ y below. claim_written h y block memory.claims m (host.left m) (λ two. absurd (zero_is_no_two state two))

@@ -3,6 +3,7 @@ use Rattle.std.specs.Prelude.{Contains}
 use Rattle.std.proofs.lemmas.Bool.{cases_Bool, cases_lt}
 use Rattle.std.proofs.lemmas.List.{get_or_past}
 use Rattle.std.proofs.lemmas.List.Elements.{Contains-get_or}
+use Rattle.vol_layout.specs.declared.geometry.Geometry.{Geometry}
 use Rattle.vol_layout.specs.declared.kind.Resource.{Resource}
 use Rattle.lock_store.specs.declared.host.HostState.{HostState}
 use Rattle.lock_store.specs.Memories.{claim_of, index_of}
@@ -19,12 +20,12 @@ none_held xs i nothing = elim (cases_Bool (slice_index_or xs i false)) [
   | inr free ↦ free
 ]
 
-may_leave : (h : ℕ) (m : HostState) → m.joined ≡ true → (Contains m.held true → ⊥) → claim_of m h ≡ 0 → MayFreeSlot h h m
-may_leave h m joined nothing unclaimed = inr (refl, joined, (λ (r : Resource). none_held m.held (index_of r) nothing), unclaimed)
+may_leave : (g : Geometry) (h : ℕ) (m : HostState) → m.joined ≡ true → (Contains m.held true → ⊥) → claim_of m h ≡ 0 → MayFreeSlot g h h m
+may_leave g h m joined nothing unclaimed = inr (refl, joined, (λ (r : Resource) has. none_held m.held (index_of r) nothing), unclaimed)
 
 pub free_slot-requires-clause-may : goal.free_slot-requires-clause-may
 free_slot-requires-clause-may c =
     let joined : (host_at c.args.self.now.locks c.args.host).joined ≡ true = search rules in
     let nothing : Contains (host_at c.args.self.now.locks c.args.host).held true → ⊥ = search rules in
     let unclaimed : claim_of (host_at c.args.self.now.locks c.args.host) c.args.host ≡ 0 = search rules in
-    may_leave c.args.host (host_at c.args.self.now.locks c.args.host) joined nothing unclaimed
+    may_leave c.args.self.now.locks.geometry c.args.host (host_at c.args.self.now.locks c.args.host) joined nothing unclaimed
