@@ -1,0 +1,14 @@
+pub mod Applies
+pub mod Commits
+pub mod Cuts
+pub mod Fetched
+pub mod Holds
+pub mod KeptTables
+pub mod OtherReaders
+pub mod PlacedCalls
+pub mod QuietCalls
+pub mod Searches
+pub mod Steps
+pub mod TableOrder
+pub mod TakenLocks
+pub mod laws

@@ -1,0 +1,2 @@
+pub mod UntoldLaws
+pub mod WorldLaws

@@ -1,0 +1,12 @@
+use Rattle.std.proofs.Common.{◌≡◌, ◌<◌, None}
+use Rattle.lock_store.specs.Views.{told_of}
+use Rattle.plan_parts.specs.Searches.{IsSearching}
+use Rattle.plan_tests.proofs.transactions.search.Given as goal
+
+-- the next step may be made
+abbrev pub invariant-loop-step : goal.invariant-loop-step
+invariant-loop-step g l = record {
+  host : l.host < l.world.locks.geometry.hosts;
+  stands : IsSearching l.world l.host l.at l.taken;
+  untold : told_of l.world.locks ≡ None;
+}

@@ -1,0 +1,11 @@
+pub mod Joins
+pub mod Nexts
+pub mod PlanSteps
+pub mod Plans
+pub mod RecoverNotes
+pub mod Recoveries
+pub mod Replaying
+pub mod Replays
+pub mod SlotTurns
+pub mod Stages
+pub mod laws

@@ -1,0 +1,58 @@
+-- What one step of the recovery of a slot does.
+use Rattle.std.specs.Prelude.{◌≡◌, ◌≢◌, ℕ, List, Option, Some}
+use Rattle.vol_base.specs.declared.block.Key.{Key}
+use Rattle.vol_layout.specs.declared.kind.Kind.TheVariants as kinds
+use Rattle.slot_lock_blocks.specs.declared.slot.Slot.TheVariants as slots
+use Rattle.host_facts.specs.Facts.Fact.{Given}
+use Rattle.host_facts.specs.Knows.{Knows}
+use Rattle.lock_store.specs.Memories.{claim_of}
+use Rattle.host_runs.specs.NotedCalls.{SwapsKind}
+use Rattle.vol_base.specs.declared.command.Command.{Command}
+use Rattle.shared_disk.specs.Events.{Event, Shows, event}
+use Rattle.slot_lock_blocks.specs.Slots.{slot_bytes}
+use Rattle.lock_store.specs.declared.answers.StepNo.{StepNo}
+use Rattle.lock_store.specs.Views.{host_at, key_at}
+use Rattle.watch.specs.declared.watch.Look.{Look}
+use Rattle.host_facts.specs.Views.{WorldView}
+use Rattle.host_notes.specs.Asked.{claim_call}
+use Rattle.plan_parts.specs.Cuts.{IsCutBy}
+use Rattle.plan_parts.specs.QuietCalls.{QuietCall}
+use Rattle.plan_parts.specs.Steps.{IsReady}
+use Rattle.recover_plan.specs.RecoverNotes.{GoingNoted, Recovers, StageNoted}
+use Rattle.recover_plan.specs.Stages.{AreFewer, StandsBehind}
+use Rattle.recover_plan.specs.declared.replay.Going.{Going}
+use Rattle.recover_plan.specs.declared.replay.Going.TheVariants.{Found}
+use Rattle.recover_plan.specs.declared.replay.Replay.{Replay}
+
+-- a claim that found another slot is the call that shows it
+abbrev pub IsShownBy : ℕ → ℕ → WorldView → Event → Going → Type 0
+IsShownBy h of v e (Found from found) = e ≡ event (key_at v.locks h) (claim_call v.locks h of from) (Shows (slot_bytes found))
+IsShownBy h of v e going = Unit {0}
+
+-- the step goes on, or is the last one
+abbrev pub IsTaken : Going → Type 0
+IsTaken (Found from found) = ⊥
+IsTaken going = Unit {0}
+
+-- one call was made: quiet in each command that recovers the slot; it shows no block where the slot is not claimed, but where the claim
+-- found another one; and it makes no slot live. What comes next stands, with fewer steps left. The host keeps its key, knows still which
+-- keys the device gave, and if it was ready for its next command, is ready still
+pub record Went (h of : ℕ) (v w : WorldView) (stage : Replay) (going : Going) : Type 0 where
+  pub event : Event
+  pub shown : IsShownBy h of v event going
+  pub unshown : IsTaken going → claim_of (host_at v.locks h) of ≡ 0 → (block : List ℕ) → event.reply ≢ Shows block
+  pub no_entry : (old : List ℕ) (key : Key)
+      → SwapsKind v.locks.geometry (kinds.Slot of) old (slot_bytes (slots.Live key 0)) (Some event) → ⊥
+  pub stands : StandsBehind w h of going
+  pub fewer : AreFewer v.locks.geometry stage going
+  pub key : key_at w.locks h ≡ key_at v.locks h
+  pub given : (key : ℕ) → Knows v h (Given key) → Knows w h (Given key)
+  pub ready : IsReady v h → IsReady w h
+  pub quiet : (command : Command) (watch : List (Option Look)) (k : ℕ) → Recovers command h of
+      → QuietCall command h v w event (StageNoted command h of watch k v stage) (GoingNoted command h of watch k w going)
+
+-- the step was refused, and cuts each such command
+abbrev pub IsCutAt : ℕ → ℕ → WorldView → WorldView → Replay → StepNo → Type 0
+IsCutAt h of v w stage why =
+    (command : Command) (watch : List (Option Look)) (k : ℕ) → Recovers command h of
+    → IsCutBy command h v w why (StageNoted command h of watch k v stage)

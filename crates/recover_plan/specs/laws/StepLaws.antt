@@ -1,0 +1,198 @@
+-- A call of a command on slots is a turn of it; and what a host that was ready is behind a call.
+use Rattle.std.proofs.Common.{◌≡◌, ◌≢◌, ◌⊎◌, ◌∷◌, ℕ, List, [], None, Option, Some, true, false, refl, ap, sym, subst, ◌∙◌, inl, inr}
+use Rattle.std.proofs.lemmas.Bool.{false_from_ne_true}
+use Rattle.std.specs.Option.{option_or}
+use Rattle.vol_base.specs.declared.block.Block.{Block}
+use Rattle.vol_base.specs.declared.block.Digest.{Digest}
+use Rattle.vol_base.specs.declared.command.Command.{Command}
+use Rattle.vol_base.specs.declared.command.Command.TheVariants as commands
+use Rattle.vol_base.specs.declared.plain.PlainReply.{PlainReply}
+use Rattle.vol_base.specs.PlainCalls.{plain_call_of}
+use Rattle.vol_layout.specs.declared.geometry.Geometry.{Geometry}
+use Rattle.vol_layout.specs.declared.kind.Resource.{Resource}
+use Rattle.vol_layout.specs.Ranges.{HasResource}
+use Rattle.journal_block.specs.JournalRecord.{JournalRecord}
+use Rattle.shared_disk.specs.Events.{Call, Event, Reply, Refuses, event}
+use Rattle.shared_disk.specs.Seen.{DiskSeen}
+use Rattle.shared_disk.specs.declared.answers.DiskNo.TheVariants as refusals
+use Rattle.image_view.specs.Valid.{IsValid}
+use Rattle.lock_store.specs.declared.answers.StepNo.{StepNo}
+use Rattle.lock_store.specs.declared.host.HostState.{HostState}
+use Rattle.lock_store.specs.Events.{Did}
+use Rattle.lock_store.specs.Memories.{holds}
+use Rattle.lock_store.specs.Views.{counter_of, host_at, key_at, told_of}
+use Rattle.disk_locks.specs.Consistent.{Consistent}
+use Rattle.host_facts.specs.Facts.Fact.{RecordIs}
+use Rattle.host_facts.specs.Knows.{Knows}
+use Rattle.host_facts.specs.Views.{WorldView, with_locks}
+use Rattle.host_facts.specs.Wrote.{FilesStay, HasValidImage}
+use Rattle.host_facts.specs.laws.FactLaws.{joined_key}
+use Rattle.host_runs.specs.Awaited.{wanted}
+use Rattle.host_runs.specs.DeviceCalls.{OnImage}
+use Rattle.host_runs.specs.Memories.{AreFileLocks, Memory}
+use Rattle.host_runs.specs.Moments.{Moment}
+use Rattle.host_runs.specs.Notes.{NotedCall, Notes, at_rest, with_call}
+use Rattle.host_notes.specs.Allowed.{IsAllowed, IsTurnOf}
+use Rattle.host_notes.specs.FileTurns.{going_on}
+use Rattle.host_notes.specs.Owes.{joined_in, plan_moment}
+use Rattle.host_notes.specs.Remembered.{IsRemembered}
+use Rattle.host_notes.specs.laws.NotedLaws.{file_holds_noted, key_noted}
+use Rattle.plan_parts.specs.Cuts.{IsCutBy}
+use Rattle.plan_parts.specs.QuietCalls.{QuietCall}
+use Rattle.plan_parts.specs.Steps.{IsAtRest, IsReady}
+use Rattle.plan_parts.specs.laws.TakenLaws.{none_held}
+use Rattle.plan_parts.specs.laws.TurnLaws.{given_no_refusal, no_places}
+use Rattle.recover_plan.specs.SlotTurns.{IsOnSlot, SlotTurn}
+
+-- a world whose locks alone changed
+pub locks_else : (v w : WorldView) → w.standing ≡ v.standing → with_locks v w.locks ≡ w
+locks_else v w same =
+    ap (λ (s : List (Option JournalRecord)). let x : WorldView = record { locks = w.locks; standing = s } in x) (sym same)
+
+-- a command on slots waits for no digest
+pub wants_none : (g : Geometry) (command : Command) (calls : List NotedCall) (digests : List Digest) (asks : Option Block)
+    → IsOnSlot command → asks ≡ None → wanted g command calls digests asks ≡ None
+wants_none g commands.Join [] [] asks on none = refl
+wants_none g commands.Leave [] [] asks on none = refl
+wants_none g commands.Beat [] [] asks on none = refl
+wants_none g (commands.Look of) [] [] asks on none = refl
+wants_none g (commands.Recover of) [] [] asks on none = refl
+wants_none g command [] [] asks on none = absurd on
+wants_none g command [] (digest ∷ digests) asks on none = none
+wants_none g command (call ∷ calls) digests asks on none = none
+
+-- its host is joined, or it is a `join`
+pub seated : (command : Command) → IsOnSlot command → (joined_in command ≡ true) ⊎ (command ≡ commands.Join)
+seated commands.Join on = inr refl
+seated commands.Leave on = inl refl
+seated commands.Beat on = inl refl
+seated (commands.Look of) on = inl refl
+seated (commands.Recover of) on = inl refl
+seated command on = absurd on
+
+module _ (command : Command) (v w : WorldView) (h : ℕ) (call : Call) (reply : Reply) (n : Notes) where
+  abbrev pub made : Event
+  made = event (key_at v.locks h) call reply
+
+  abbrev pub moment : Moment
+  moment = plan_moment v.locks.geometry h command v.locks.disk w.locks.disk (Some made) None n
+
+  -- the turn is one of its host, where that has a key
+  pub turn_of : IsOnSlot command → IsRemembered v.locks.geometry n.memory (host_at v.locks h) → key_at v.locks h ≢ 0
+      → IsTurnOf v.locks h moment
+  turn_of on remembered some = record {
+    geometry = refl;
+    host = refl;
+    key = key_noted v.locks.geometry n.memory (host_at v.locks h) remembered some;
+    seat = seated command on;
+  }
+
+  -- a call that was made and may be made
+  pub slot_turn : (m : HostState) → IsOnSlot command → n.placed ≡ None → Did v.locks h call reply m w.locks
+      → reply ≢ Refuses refusals.NoMemory → FilesStay v w → HasValidImage w → IsAllowed moment made
+      → SlotTurn v.locks.geometry h command v.locks.disk w.locks.disk (Some made) n
+  slot_turn m on unplaced did heard files valid allowed = record {
+    on = on;
+    acts = (did.acts, heard);
+    may = allowed.made;
+    marks = allowed.marks;
+    files = no_places v.locks.geometry (plain_call_of command) (told_of v.locks) (told_of w.locks) files;
+    valid = subst (λ (g : Geometry). OnImage w.locks.disk.state (IsValid g (counter_of w.locks))) did.geometry valid;
+    unplaced = unplaced;
+  }
+
+-- a quiet call
+pub quiet_slot_turn : (command : Command) (v w : WorldView) (h : ℕ) (e : Event) (n : Notes) (Before After : Notes → Type 0)
+    → IsOnSlot command → IsRemembered v.locks.geometry n.memory (host_at v.locks h) → key_at v.locks h ≢ 0 → n.placed ≡ None → Before n
+    → QuietCall command h v w e Before After → SlotTurn v.locks.geometry h command v.locks.disk w.locks.disk (Some e) n
+quiet_slot_turn command v w h e n Before After on remembered some unplaced before quiet =
+    let m = plan_moment v.locks.geometry h command v.locks.disk w.locks.disk (Some e) None n in
+    let turn : IsTurnOf v.locks h m = record {
+      geometry = refl;
+      host = refl;
+      key = key_noted v.locks.geometry n.memory (host_at v.locks h) remembered some;
+      seat = seated command on;
+    } in
+    let allowed = quiet.allowed m turn refl before in record {
+      on = on;
+      acts = (quiet.acts, given_no_refusal e.reply quiet.answered);
+      may = allowed.made;
+      marks = allowed.marks;
+      files = no_places v.locks.geometry (plain_call_of command) (told_of v.locks) (told_of w.locks) quiet.files;
+      valid = subst (λ (g : Geometry). OnImage w.locks.disk.state (IsValid g (counter_of w.locks))) quiet.geometry quiet.valid;
+      unplaced = unplaced;
+    }
+
+-- a ready host has a key
+pub ready_key : (v : WorldView) (h : ℕ) → Consistent v.locks → IsReady v h → key_at v.locks h ≢ 0
+ready_key v h c ready = joined_key v.locks.geometry.hosts (counter_of v.locks) h (host_at v.locks h) (c.memories h) ready.joined
+
+-- it stays ready where it is joined, holds what it held, and its journal is empty
+pub ready_on : (v w : WorldView) (h : ℕ) → w.locks.geometry ≡ v.locks.geometry → (host_at w.locks h).joined ≡ true
+    → ((r : Resource) → holds (host_at w.locks h) r ≡ holds (host_at v.locks h) r) → Knows w h (RecordIs []) → IsReady v h → IsReady w h
+ready_on v w h geometry joined same empty ready = record {
+  joined = joined;
+  empty = empty;
+  taking = record {
+    each = tt;
+    only = λ r has shared held. ready.taking.only r (subst (λ (g : Geometry). HasResource g r) geometry has) shared (sym (same r) ∙ held);
+  };
+}
+
+pub ready_same : (v w : WorldView) (h : ℕ) → w.locks.geometry ≡ v.locks.geometry → host_at w.locks h ≡ host_at v.locks h
+    → (Knows v h (RecordIs []) → Knows w h (RecordIs [])) → IsReady v h → IsReady w h
+ready_same v w h geometry memory empty ready =
+    ready_on v w h geometry (ap (λ (m : HostState). m.joined) memory ∙ ready.joined) (λ r. ap (λ (m : HostState). holds m r) memory)
+    (empty ready.empty) ready
+
+-- and its notes are those of a host that rests
+pub ready_rests : (w : WorldView) (h : ℕ) (g : Geometry) (memory : Memory) → Consistent w.locks → w.locks.geometry ≡ g → IsReady w h
+    → IsRemembered g memory (host_at w.locks h) → AreFileLocks g memory.holds × (memory.left ≡ false)
+ready_rests w h g memory c geometry ready is = (
+  file_holds_noted g memory (host_at w.locks h) is
+      (λ r has shared. none_held w h ready.taking r (subst (λ (x : Geometry). HasResource x r) (sym geometry) has) shared),
+  is.left ∙ false_from_ne_true (host_at w.locks h).freed
+      (λ freed. let both : true ≡ false = sym ready.joined ∙ (c.memories h).gone freed in cc),
+)
+
+pub at_rest_ready : (w : WorldView) (h : ℕ) (g : Geometry) (n : Notes) → w.locks.geometry ≡ g → IsReady w h
+    → IsRemembered g n.memory (host_at w.locks h) → n ≡ at_rest n.memory n.dying n.pending n.watch → IsAtRest w h n
+at_rest_ready w h g n geometry ready is between = record {
+  remembered = subst (λ (x : Geometry). IsRemembered x n.memory (host_at w.locks h)) (sym geometry) is;
+  rests = inl ready;
+  between = between;
+}
+
+-- the notes of a command that goes on are those with its call, where it asked for nothing
+or_none : (o : Option PlainReply) → option_or o None ≡ o
+or_none None = refl
+or_none (Some reply) = refl
+
+pub going_on_call : (g : Geometry) (h : ℕ) (command : Command) (old new : DiskSeen) (e : Event) (n : Notes) → n.asks ≡ None
+    → with_call g h command old.state (Some e) n ≡ going_on (plan_moment g h command old new (Some e) None n)
+going_on_call g h command old new e n none =
+    ap (λ (o : Option PlainReply). record (with_call g h command old.state (Some e) n) { placed = o }) (sym (or_none n.placed))
+    ∙ ap (λ (o : Option Block). record (with_call g h command old.state (Some e) n) { placed = option_or n.placed None; asks = o }) none
+
+-- what the notes with a call agree with, those of the command that goes on do
+pub agrees_on : (After : Notes → Type 0) (g : Geometry) (h : ℕ) (command : Command) (old new : DiskSeen) (e : Event) (n : Notes)
+    → n.asks ≡ None → After (with_call g h command old.state (Some e) n)
+    → After (going_on (plan_moment g h command old new (Some e) None n))
+agrees_on After g h command old new e n none after = subst After (going_on_call g h command old new e n none) after
+
+-- a cut of notes that say less
+pub cut_stronger : (command : Command) (v w : WorldView) (h : ℕ) (why : StepNo) (Before Now : Notes → Type 0)
+    → ((n : Notes) → Now n → Before n) → IsCutBy command h v w why Before → IsCutBy command h v w why Now
+cut_stronger command v w h why Before Now says (e, cut) = (
+  e,
+  record {
+    acts = cut.acts;
+    cause = cut.cause;
+    state = cut.state;
+    geometry = cut.geometry;
+    others = cut.others;
+    memory = cut.memory;
+    same = cut.same;
+    allowed = λ m turn of before. cut.allowed m turn of (says m.old before);
+  },
+)
