@@ -11,10 +11,11 @@ use std::process::Abort;
 use std::test::Fail;
 use vol_base::{HostNo, Key};
 
-// The keys of hosts 0 and 1 that register first and second: the counter times 16, and the host.
-const FIRST: Key = Key(16);
+/// The keys of hosts 0 and 1 that register first and second: the counter times 16, and the host.
+pub const FIRST: Key = Key(16);
 
-const SECOND: Key = Key(33);
+/// See [`FIRST`].
+pub const SECOND: Key = Key(33);
 
 /// Compares an answer.
 pub fn expect<T: Copy + PartialEq + Debug>(rt: &impl Abort, answer: T, expected: T) {
@@ -34,8 +35,8 @@ fn joined(rt: &impl Abort, worlds: &mut Worlds) {
 
 const JOINED: [Call; 4] = [Register(0), Swap(1), Register(1), Swap(2)];
 
-// Compares all calls with those by which two hosts joined, and these behind them.
-fn made(rt: &impl Abort, worlds: Worlds, calls: &[Call]) {
+/// Compares all calls with those by which two hosts joined, and these behind them.
+pub fn made(rt: &impl Abort, worlds: Worlds, calls: &[Call]) {
     let disk = worlds.close();
     compare(rt, &disk, 0, &JOINED);
     compare(rt, &disk, 4, calls);

@@ -51,20 +51,23 @@ pub fn search<D: Device>(world: &mut MetaWorld<D>, host: HostNo) -> Result<Sough
     Ok(Sought::Unended)
 }
 
-/// What a transaction came to: its group is locked by another key, or so many tables were written and so many locks freed.
+/// What a transaction came to: its group is locked by another key, its record stands, or so many tables were written and so many
+/// locks freed.
 #[derive(Clone, Copy, Debug, PartialEq, Eq)]
 pub enum Created {
     Busy(Key),
+    Begun,
     Made { tables: u8, locks: u8 },
 }
 
-/// Makes a file of no blocks, of which the host has the write hold, under the lock of a group.
+/// Makes a file of no blocks, of which the host has the write hold, under the lock of a group; or ends behind the record of it.
 #[tactic(auto, using(crate::proofs::WorldLaws::still, crate::proofs::WorldLaws::gained, plan_parts::specs::laws::TakenLaws::taking_same))]
 pub fn create<D: Device>(
     world: &mut MetaWorld<D>,
     host: HostNo,
     file: FileNo,
     group: u8,
+    whole: bool,
 ) -> Result<Created, StepNo>
     requires host { host < world.old.locks.geometry.hosts }
     requires file { file < world.old.locks.geometry.files }
@@ -82,7 +85,8 @@ pub fn create<D: Device>(
         Err(why) => return Err(why),
     }
     match read(world, host, file, group) {
-        Ok(kept) => match put(world, host, file, kept) {
+        Ok(kept) => match put(world, host, file, kept, whole) {
+            Ok(_) if !whole => Ok(Created::Begun),
             Ok(tables) => match free_all(world, host, taken) {
                 Ok(locks) => Ok(Created::Made { tables, locks }),
                 Err(why) => Err(why),
@@ -119,13 +123,14 @@ fn read<D: Device>(
     }
 }
 
-// Commits the record that makes the file, and applies it.
+// Commits the record that makes the file, and applies it if it is to be made whole.
 #[tactic(auto, using(crate::proofs::WorldLaws::still, crate::proofs::WorldLaws::none_stands, crate::proofs::UntoldLaws::sure))]
 fn put<D: Device>(
     world: &mut MetaWorld<D>,
     host: HostNo,
     file: FileNo,
     kept: Kept,
+    whole: bool,
 ) -> Result<u8, StepNo>
     requires host { host < world.old.locks.geometry.hosts }
     requires file { file < world.old.locks.geometry.files }
@@ -146,6 +151,7 @@ fn put<D: Device>(
     let entry = Record::new(key, edit);
     let left = Kepts::new(Some(kept), None, None, None);
     match commit(world, host, &entry, &left) {
+        Ok(()) if !whole => Ok(0),
         Ok(()) => apply(world, host, Applying { entry, left }),
         Err(why) => Err(why),
     }

@@ -1,13 +1,15 @@
 // The world of a small volume, as a test calls it.
-ghost use Rattle.std.specs.Prelude.{◌≡◌, ◌<◌, ◌≤◌, [], Contains, IsTrue, None, drop, true};
+ghost use Rattle.std.specs.Prelude.{◌≡◌, ◌≢◌, ◌<◌, ◌≤◌, [], Contains, IsTrue, None, drop, true};
 ghost use Rattle.lock_store.specs.Memories.{holds};
-ghost use Rattle.lock_store.specs.Views.{host_at, told_of};
+ghost use Rattle.lock_store.specs.Views.{host_at, key_at, told_of};
 ghost use Rattle.plan_parts.specs.Holds.{IsOutside};
+ghost use Rattle.plan_parts.specs.Steps.{IsReady};
 ghost use Rattle.plan_parts.specs.TakenLocks.{IsTaking};
 ghost use Rattle.vol_layout.specs.declared.kind.Resource.{Resource};
 
 use crate::holds::{self, Came};
 use crate::noting::Noting;
+use crate::slots::{Eyes, run};
 use crate::transactions::{self, Created, Sought};
 use crate::untold::Untold;
 use disk_locks::Locks;
@@ -18,8 +20,9 @@ use plan_parts::{confirm, free_lock};
 use shared_disk::DiskNo;
 use slot_lock_blocks::Slot;
 use std::alloc::Global;
-use vol_base::{Block, FileNo, HostNo, Key, NoMemory};
+use vol_base::{Answer, Block, Command, FileNo, HostNo, Key, NoMemory};
 use vol_layout::{Geometry, Kind, Resource, Table};
+use watch::Watch;
 
 /// The least volume of three hosts, two files and two groups, of 2,039 blocks.
 pub const GEOMETRY: Geometry = Geometry {
@@ -106,6 +109,42 @@ impl Worlds {
         self.is_joined(host)
             && file < self.world.locks().geometry().files
             && self.world.locks().holds(host, Resource::File(file))
+    }
+
+    // Whether the host has the write hold of the file, holds no part and no group, and the volume has the group.
+    fn may_create(&self, host: HostNo, file: FileNo, group: u8) -> bool
+        ensures host { IsTrue result → host < self.now.world.locks.geometry.hosts }
+        ensures joined { IsTrue result → (host_at self.now.world.locks host).joined ≡ true }
+        ensures file { IsTrue result → file < self.now.world.locks.geometry.files }
+        ensures group { IsTrue result → group < self.now.world.locks.geometry.groups }
+        ensures held { IsTrue result → holds (host_at self.now.world.locks host) (Resource.File file) ≡ true }
+        ensures taking { IsTrue result → IsTaking self.now.world host [] }
+    {
+        if !self.is_writer(host, file) || !self.takes_none(host) {
+            return false;
+        }
+        group < self.world.locks().geometry().groups
+    }
+
+    // Whether the host may begin a command on slots, on a volume of three hosts.
+    fn is_ready(&self, host: HostNo) -> bool
+        ensures host { IsTrue result → host < self.now.world.locks.geometry.hosts }
+        ensures three { IsTrue result → self.now.world.locks.geometry.hosts ≡ 3 }
+        ensures key { IsTrue result → key_at self.now.world.locks host ≢ 0 }
+        ensures ready { IsTrue result → IsReady self.now.world host }
+    {
+        if self.world.locks().geometry().hosts != 3 || !self.is_joined(host) {
+            return false;
+        }
+        self.world.locks().host(host).number() != 0 && self.takes_none(host)
+    }
+
+    // Whether the host may begin a command on the slot of this other one.
+    fn is_other(&self, host: HostNo, of: HostNo) -> bool
+        ensures of { IsTrue result → of < self.now.world.locks.geometry.hosts }
+        ensures other { IsTrue result → of ≢ host }
+    {
+        self.has(of) && of != host
     }
 
     // Whether the host holds no part and no group, whose holds stand behind those of files.
@@ -197,13 +236,18 @@ impl Worlds {
 
     /// Makes a file of no blocks under the lock of a group.
     pub fn create(&mut self, host: HostNo, file: FileNo, group: u8) -> Asked<Created> {
-        if !self.is_writer(host, file) || !self.takes_none(host) {
+        if !self.may_create(host, file, group) {
             return None;
         }
-        if group >= self.world.locks().geometry().groups {
+        Some(transactions::create(&mut self.world, host, file, group, true))
+    }
+
+    /// Takes the locks for it and writes its record, behind which the host makes no call any more.
+    pub fn commit(&mut self, host: HostNo, file: FileNo, group: u8) -> Asked<Created> {
+        if !self.may_create(host, file, group) {
             return None;
         }
-        Some(transactions::create(&mut self.world, host, file, group))
+        Some(transactions::create(&mut self.world, host, file, group, false))
     }
 
     pub fn search(&mut self, host: HostNo) -> Asked<Sought> {
@@ -211,6 +255,56 @@ impl Worlds {
             return None;
         }
         Some(transactions::search(&mut self.world, host))
+    }
+}
+
+#[tactic(auto, using(crate::proofs::SlotLaws::seen, crate::proofs::SlotLaws::watched))]
+impl Worlds {
+    /// Runs a `leave`, a `beat`, or a `look` at or a `recover` of another host, by at most so many steps.
+    pub fn plan(
+        &mut self,
+        eyes: &mut Eyes,
+        host: HostNo,
+        command: Command,
+        most: u8,
+    ) -> Option<Answer> {
+        if !self.is_ready(host) {
+            return None;
+        }
+        match command {
+            Command::Leave => run(&mut self.world, &mut eyes.watch, host, Command::Leave, most),
+            Command::Beat => run(&mut self.world, &mut eyes.watch, host, Command::Beat, most),
+            Command::Look(of) if self.is_other(host, of) => {
+                run(
+                    &mut self.world,
+                    &mut eyes.watch,
+                    host,
+                    Command::Look(of),
+                    most,
+                )
+            }
+            Command::Recover(of) if self.is_other(host, of) => {
+                run(
+                    &mut self.world,
+                    &mut eyes.watch,
+                    host,
+                    Command::Recover(of),
+                    most,
+                )
+            }
+            _ => None,
+        }
+    }
+
+    /// Runs a `join` of a host that has nothing in memory any more, by at most so many steps.
+    #[tactic(auto, using(crate::proofs::UntoldLaws::stays))]
+    pub fn join(&mut self, host: HostNo, most: u8) -> Option<Answer> {
+        if !self.has(host) {
+            return None;
+        }
+        self.world.locks_mut().drop_host(host);
+        let mut watch = Watch::new();
+        run(&mut self.world, &mut watch, host, Command::Join, most)
     }
 }
 

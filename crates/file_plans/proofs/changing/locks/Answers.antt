@@ -1,0 +1,48 @@
+use Rattle.std.proofs.Common.{◌∙◌, ℕ, None, ap, refl, subst, sym}
+use Rattle.vol_layout.specs.declared.field.Field.TheVariants.{Count}
+use Rattle.vol_layout.specs.declared.geometry.Geometry.{Geometry}
+use Rattle.vol_layout.specs.declared.kind.Resource.{Resource}
+use Rattle.vol_layout.specs.Fields.{HasField, resource_of}
+use Rattle.lock_store.specs.Views.{LocksView}
+use Rattle.disk_locks.specs.Consistent.{Consistent}
+use Rattle.plan_parts.specs.Fetched.{Takes}
+use Rattle.file_plans.specs.declared.stage.Stage.TheVariants as stages
+use Rattle.file_plans.specs.laws.ChangeSightLaws.{change_has}
+use Rattle.file_plans.specs.laws.ChangeStageLaws.{change_locked}
+use Rattle.file_plans.specs.laws.WriteEndLaws.{busy_at, cut_at, went_as}
+use Rattle.file_plans.proofs.changing.locks.Goals as goal
+
+pub resource_of-what-requires-clause-field : goal.resource_of-what-requires-clause-field
+resource_of-what-requires-clause-field g c =
+    subst (λ (x : Geometry). HasField x (Count c.first_of-number.result))
+    (sym (c.geometry.ensures.geometry ∙ ap (λ (l : LocksView). l.geometry) c.locks.ensures))
+    (subst (λ (d : ℕ). HasField c.args.world.now.locks.geometry (Count d)) (sym c.first_of-number.ensures)
+    (change_has _ _ c.args.core.now.call c.args.change c.requires.stands.2))
+
+pub returns-in-None-clause-went : goal.returns-in-None-clause-went
+returns-in-None-clause-went g c =
+    went_as c.args.world.now c.take-came.new.world c.args.cache.now c.args.core.now _ (stages.Locks c.args.change) _ _ _ _
+    c.made.ensures refl
+    (change_locked c.args.world.now c.take-came.new.world c.args.cache.now c.args.core.now
+    (subst Consistent c.locks.ensures c.geometry.ensures.consistent)
+    (subst Consistent c.locks-2.ensures c.geometry-geometry.ensures.consistent) c.args.change c.take-came.new.self c.requires.stands
+    (subst (λ (d : ℕ). Takes c.args.core.now.host c.args.world.now c.take-came.new.world (resource_of (Count d)) c.args.core.now.taken
+    c.take-came.new.self None) c.first_of-number.ensures
+    (subst (λ (r : Resource). Takes c.args.core.now.host c.args.world.now c.take-came.new.world r c.args.core.now.taken
+    c.take-came.new.self None) c.resource_of-what.ensures.resource
+    (subst (Takes c.args.core.now.host c.args.world.now c.take-came.new.world c.resource_of-what.result c.args.core.now.taken
+    c.take-came.new.self) c.in-None.is c.in-Ok.ensures.went))))
+
+pub returns-in-Some-clause-went : goal.returns-in-Some-clause-went
+returns-in-Some-clause-went g c =
+    busy_at c.args.world.now c.take-came.new.world c.args.cache.now c.args.core.now (stages.Locks c.args.change)
+    (subst Consistent c.locks.ensures c.geometry.ensures.consistent)
+    (subst Consistent c.locks-2.ensures c.geometry-geometry.ensures.consistent) c.requires.stands.0 (λ command n noted. noted)
+    c.take-came.new.self c.in-Some.key
+    (subst (Takes c.args.core.now.host c.args.world.now c.take-came.new.world c.resource_of-what.result c.args.core.now.taken
+    c.take-came.new.self) c.in-Some.is c.in-Ok.ensures.went)
+    _ _ _ c.comes.ensures.core c.comes.ensures.step c.comes.ensures.rest
+
+pub returns-in-Err-clause-cut : goal.returns-in-Err-clause-cut
+returns-in-Err-clause-cut g c =
+    cut_at c.args.world.now c.take-came.new.world c.args.core.now (stages.Locks c.args.change) c.in-Err.why c.in-Err.ensures.cut

@@ -1,0 +1,13 @@
+pub mod Bases
+pub mod Begins
+pub mod Calls
+pub mod Commits
+pub mod Forgets
+pub mod Plans
+pub mod Keeps
+pub mod Says
+pub mod Sights
+pub mod Stands
+pub mod Went
+pub mod Writes
+pub mod laws
