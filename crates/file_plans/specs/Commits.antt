@@ -1,11 +1,11 @@
 -- The commits of file commands: what a fresh write leaves, what counts become, and what a commit did.
-use Rattle.std.specs.Prelude.{◌≡◌, ◌≢◌, ◌==◌, ◌&&◌, ◌+◌, ◌-◌, ◌++◌, ℕ, zero, suc, All, List, [], ◌∷◌, None, Option, Some, if◌then◌else◌, length, map, nat_le, nat_lt, true}
+use Rattle.std.specs.Prelude.{◌≡◌, ◌≢◌, ◌==◌, ◌&&◌, ◌+◌, ◌-◌, ◌++◌, ℕ, zero, suc, All, List, [], ◌∷◌, None, Option, Some, if◌then◌else◌, IfSome, length, map, nat_le, nat_lt, slice_get, true}
 use Rattle.std.specs.Option.{option_to_list}
 use Rattle.vol_base.specs.Packing.{Packing}
 use Rattle.vol_base.specs.declared.command.Command.{Command}
 use Rattle.vol_base.specs.declared.plain.PlainReply.{PlainReply}
 use Rattle.vol_layout.specs.declared.field.Edit.{Edit}
-use Rattle.vol_layout.specs.declared.field.Field.TheVariants.{Count}
+use Rattle.vol_layout.specs.declared.field.Field.TheVariants.{Count, Pointer}
 use Rattle.vol_layout.specs.declared.kind.Kind.TheVariants as kinds
 use Rattle.vol_layout.specs.declared.kind.Table.{Table}
 use Rattle.vol_layout.specs.Edits.{IsEdit}
@@ -35,6 +35,7 @@ use Rattle.plan_parts.specs.declared.applying.Applying.{Applying}
 use Rattle.plan_parts.specs.declared.kept.Kept.{Kept}
 use Rattle.plan_parts.specs.declared.outcome.Outcome.TheVariants.{Open}
 use Rattle.file_plans.specs.Calls.{Runs}
+use Rattle.file_plans.specs.Says.{Known}
 use Rattle.file_plans.specs.declared.call.FileCall.{FileCall}
 use Rattle.file_plans.specs.declared.old.Old.{Old}
 use Rattle.file_plans.specs.declared.old.Old.TheVariants.{Hole, Other, Same}
@@ -141,3 +142,10 @@ pub record HasCommitted (h : ℕ) (v w : WorldView) (call : FileCall) (placed : 
   pub event : Event
   pub made : (command : Command) → Runs command call
       → PlacedCall command h v w event placed (Noted command h v Open) (Noted command h w Open)
+
+-- the tables that the record of a purge leaves to write: that of its pointers, as it is known, and that of the counts
+pub record LeavesPurge (known : Known) (f : ℕ) (rs : List Remain) (group : Kept) (left : List Kept) : Type 0 where
+  pub pointers : Kept
+  pub left_is : left ≡ pointers ∷ group ∷ []
+  pub which : IfSome (slice_get rs 0) (λ (r : Remain). pointers.which ≡ table_of (Pointer f r.index))
+  pub known_is : known pointers.which ≡ Some pointers.table

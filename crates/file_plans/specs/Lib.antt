@@ -8,6 +8,7 @@ pub mod Keeps
 pub mod Says
 pub mod Sights
 pub mod Stands
+pub mod Turns
 pub mod Went
 pub mod Writes
 pub mod laws

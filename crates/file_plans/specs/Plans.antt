@@ -26,7 +26,8 @@ abbrev pub first_of : FileCall → Stage
 first_of call = if is_write call then stages.Asks else stages.Begins
 
 -- the digest of this block is waited for, which the command asks for; nothing was done, and the plan stands as before
-pub record IsWaiting (v w : WorldView) (d : Cache) (old new : Core) (step : Step) (after : Stage) (block : Block) : Type 0 where
+pub record IsWaiting (v w : WorldView) (d : Cache) (old new : Core) (before : Stage) (step : Step) (after : Stage) (block : Block) : Type 0 where
+  pub from : before ≡ stages.Asks
   pub same : w ≡ v
   pub core : new ≡ old
   pub stage : after ≡ stages.Asks
@@ -45,14 +46,8 @@ pub record IsEnded (v w : WorldView) (d : Cache) (old : Core) (before : Stage) (
 -- what a step did, by what comes next
 abbrev pub HasStepped : WorldView → WorldView → Cache → Core → Core → Stage → Step → Stage → Next → Type 0
 HasStepped v w d old new before step after More = Went v w d old new before step after
-HasStepped v w d old new before step after (Work block) = IsWaiting v w d old new step after block
+HasStepped v w d old new before step after (Work block) = IsWaiting v w d old new before step after block
 HasStepped v w d old new before step after (Answered answer) = IsEnded v w d old before step
-
--- nothing was done for want of memory
-pub record IsUntouched (v w : WorldView) (h : ℕ) : Type 0 where
-  pub state : w.locks.disk.state ≡ v.locks.disk.state
-  pub geometry : w.locks.geometry ≡ v.locks.geometry
-  pub memory : host_at w.locks h ≡ host_at v.locks h
 
 -- a step was refused; none is where a digest is asked for
 abbrev pub IsRefused : WorldView → WorldView → Core → Stage → StepNo → Type 0

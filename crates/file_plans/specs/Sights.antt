@@ -1,9 +1,12 @@
 -- What a command is to do, by the tables that are known of its file.
-use Rattle.std.specs.Prelude.{◌≡◌, ◌≤◌, ◌+◌, ◌-◌, ℕ, Bool, true, false, None, Some}
+use Rattle.std.specs.Prelude.{◌≡◌, ◌⊎◌, ◌≤◌, ◌+◌, ◌-◌, ℕ, Bool, true, false, None, Some}
 use Rattle.vol_base.specs.declared.plain.PlainCall.TheVariants.{Create, Punch, Read, Remove, Size, Write}
-use Rattle.vol_layout.specs.declared.field.Field.TheVariants.{Head}
+use Rattle.vol_layout.specs.declared.field.Field.TheVariants.{Head, Pointer}
 use Rattle.vol_layout.specs.declared.geometry.Geometry.{Geometry}
 use Rattle.vol_layout.specs.declared.kind.Resource.TheVariants.{File}
+use Rattle.vol_layout.specs.declared.kind.Table.{Table}
+use Rattle.vol_layout.specs.declared.kind.Table.TheVariants as tables
+use Rattle.vol_layout.specs.Fields.{table_of}
 use Rattle.vol_layout.specs.Ranges.{limit}
 use Rattle.vol_layout.specs.Superblock.{SpellsGeometry}
 use Rattle.image_view.specs.declared.pointer.Number.TheVariants.{At, Hole}
@@ -18,9 +21,23 @@ use Rattle.file_plans.specs.declared.call.FileCall.TheVariants.{Close, Plain}
 use Rattle.file_plans.specs.declared.sight.Sight.{Sight}
 use Rattle.file_plans.specs.declared.sight.Sight.TheVariants.{Clear, Drops, Fresh, Heads, Needs, Own, Purges, Settled, Shows}
 
+-- the table block of a file's head, or of its pointer at an index
+abbrev pub IsOfIndex : ℕ → ℕ → Table → Type 0
+IsOfIndex f i t = (t ≡ tables.File f) ⊎ (t ≡ table_of (Pointer f i))
+
+-- which tables of its file a call may want
+abbrev pub MayWant : FileCall → Table → Type 0
+MayWant (Plain (Create f)) t = t ≡ tables.File f
+MayWant (Plain (Remove f)) t = t ≡ tables.File f
+MayWant (Plain (Write f i block)) t = IsOfIndex f i t
+MayWant (Plain (Read f i)) t = IsOfIndex f i t
+MayWant (Plain (Punch f i)) t = IsOfIndex f i t
+MayWant (Plain (Size f k)) t = Unit {0}
+MayWant (Close f) t = Unit {0}
+
 -- what is to be done is right by what the known tables say
 abbrev pub IsSight : Geometry → Known → FileCall → Sight → Type 0
-IsSight g known call (Needs t) = IsFileTable g t × (owner t ≡ File (file_of call)) × (known t ≡ None)
+IsSight g known call (Needs t) = IsFileTable g t × (owner t ≡ File (file_of call)) × (known t ≡ None) × MayWant call t
 IsSight g known (Plain call) (Settled reply) =
     (image : Image) → SpellsGeometry (first_block image) g → Reads g known image → IsLook g call reply image
 IsSight g known (Plain (Read f i)) (Shows d) = (shared : Bool) × HasBlock g known f i (At d shared)

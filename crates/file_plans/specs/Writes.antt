@@ -1,7 +1,5 @@
 -- The stages of a transaction: which one comes behind another, and how many steps may still come.
-use Rattle.std.specs.Prelude.{◌≡◌, ◌<◌, ◌==◌, ◌/◌, ◌+◌, ◌*◌, ℕ, Bool, false, None, Option, Some, if◌then◌else◌, length}
-use Rattle.vol_base.specs.declared.answer.Next.{Next}
-use Rattle.vol_base.specs.declared.answer.Next.TheVariants.{More}
+use Rattle.std.specs.Prelude.{◌==◌, ◌/◌, ◌+◌, ℕ, Bool, false, None, Option, Some, if◌then◌else◌, length}
 use Rattle.vol_layout.specs.declared.geometry.Geometry.{Geometry}
 use Rattle.vol_layout.specs.declared.kind.Table.{Table}
 use Rattle.vol_layout.specs.declared.kind.Table.TheVariants.{Group}
@@ -10,7 +8,6 @@ use Rattle.plan_parts.specs.Searches.{rank}
 use Rattle.plan_parts.specs.declared.kept.Kept.{Kept}
 use Rattle.file_plans.specs.declared.old.Old.{Old}
 use Rattle.file_plans.specs.declared.old.Old.TheVariants as olds
-use Rattle.file_plans.specs.declared.state.Core.{Core}
 use Rattle.file_plans.specs.declared.stage.Stage.{Stage}
 use Rattle.file_plans.specs.declared.stage.Stage.TheVariants as stages
 
@@ -52,16 +49,3 @@ steps_left g (stages.Fetches change) = 11
 steps_left g (stages.Changes change group) = 10
 steps_left g (stages.Applies a) = length a.left + 1
 steps_left g stage = 0
-
--- where the plan goes on, fewer steps may come
-abbrev pub LeavesFewer : Geometry → Stage → Next → Stage → Type 0
-LeavesFewer g before next after = next ≡ More → steps_left g after < steps_left g before
-
--- how far a plan is from the end of its round, in which it looks at its tables once and then acts: no more locks are taken than the volume
--- has groups and parts, so that each step before the freeing weighs more than all locks
-abbrev pub round_left : Geometry → Core → Stage → ℕ
-round_left g core stage = steps_left g stage * (g.groups + g.parts + 1) + length core.taken
-
--- where the plan goes on, the end of its round is nearer
-abbrev pub IsNearer : Geometry → Core → Stage → Core → Next → Stage → Type 0
-IsNearer g old before new next after = next ≡ More → round_left g new after < round_left g old before

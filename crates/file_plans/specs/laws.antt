@@ -14,6 +14,7 @@ pub mod FillLaws
 pub mod FirstLaws
 pub mod ForgetLaws
 pub mod HoldStageLaws
+pub mod KeptLaws
 pub mod KnownLaws
 pub mod NeedLaws
 pub mod PlanLaws
@@ -27,6 +28,14 @@ pub mod RoundLaws
 pub mod SaysLaws
 pub mod SeeLaws
 pub mod SightLaws
+pub mod TurnActLaws
+pub mod TurnBoundLaws
+pub mod TurnCountLaws
+pub mod TurnStepLaws
+pub mod TurnKnownLaws
+pub mod TurnHoldLaws
+pub mod TurnLastLaws
+pub mod TurnPurgeLaws
 pub mod WriteBaseLaws
 pub mod WriteEndLaws
 pub mod WriteSearchLaws

@@ -1,6 +1,7 @@
 // The step of a call that has its hold, by what the kept tables of its file say.
 ghost use Rattle.std.specs.Prelude.{◌≡◌, IfErr, IfOk};
 ghost use Rattle.file_plans.specs.Stands.{At};
+ghost use Rattle.file_plans.specs.Turns.{IsSooner};
 ghost use Rattle.file_plans.specs.Went.{IsCutAt, LeavesOthers, Went};
 ghost use Rattle.host_facts.specs.Others.{Others};
 
@@ -26,6 +27,7 @@ pub fn sees<D: Device>(
 ) -> Result<(Step, Stage), StepNo>
     requires stands { At world.old cache.old core.old Stage.Sees }
     ensures went { IfOk result (λ r. Went world.old world.new cache.new core.old core.new Stage.Sees r.0 r.1) }
+    ensures sooner { IfOk result (λ r. IsSooner world.old cache.old core.old Stage.Sees world.new cache.new core.new r.0.next r.1) }
     ensures cut { IfErr result (IsCutAt world.old world.new core.old Stage.Sees) }
     ensures others { Others core.old.host world.old world.new }
     ensures leaves { LeavesOthers core.old.host cache.old cache.new }

@@ -3,6 +3,7 @@ ghost use Rattle.std.specs.Prelude.{◌≡◌, ◌<◌, IfErr, IfOk, false};
 ghost use Rattle.file_plans.specs.Begins.{has_hold};
 ghost use Rattle.file_plans.specs.Calls.{file_of};
 ghost use Rattle.file_plans.specs.Stands.{At};
+ghost use Rattle.file_plans.specs.Turns.{IsSooner};
 ghost use Rattle.file_plans.specs.Went.{IsCutAt, LeavesOthers, Went};
 ghost use Rattle.host_facts.specs.Others.{Others};
 ghost use Rattle.lock_store.specs.Memories.{holds};
@@ -31,6 +32,7 @@ pub fn begins<D: Device>(
 ) -> Result<(Step, Stage), StepNo>
     requires stands { At world.old cache.old core.old Stage.Begins }
     ensures went { IfOk result (λ r. Went world.old world.new cache.new core.old core.new Stage.Begins r.0 r.1) }
+    ensures sooner { IfOk result (λ r. IsSooner world.old cache.old core.old Stage.Begins world.new cache.new core.new r.0.next r.1) }
     ensures cut { IfErr result (IsCutAt world.old world.new core.old Stage.Begins) }
     ensures others { Others core.old.host world.old world.new }
     ensures leaves { LeavesOthers core.old.host cache.old cache.new }
@@ -68,6 +70,7 @@ fn tries<D: Device>(
     requires stands { At world.old cache.old core.old Stage.Begins }
     requires out { has_hold core.old.call (host_at world.old.locks core.old.host) ≡ false }
     ensures went { IfOk result (λ r. Went world.old world.new cache.new core.old core.new Stage.Begins r.0 r.1) }
+    ensures sooner { IfOk result (λ r. IsSooner world.old cache.old core.old Stage.Begins world.new cache.new core.new r.0.next r.1) }
     ensures cut { IfErr result (IsCutAt world.old world.new core.old Stage.Begins) }
     ensures others { Others core.old.host world.old world.new }
     ensures leaves { LeavesOthers core.old.host cache.old cache.new }

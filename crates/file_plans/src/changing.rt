@@ -4,7 +4,7 @@ ghost use Rattle.std.specs.Prelude.{◌≡◌, IfErr, IfOk};
 ghost use Rattle.file_plans.specs.Sights.{IsSight};
 ghost use Rattle.file_plans.specs.Stands.{At, first_of_change};
 ghost use Rattle.file_plans.specs.Went.{IsCutAt, Went};
-ghost use Rattle.file_plans.specs.Writes.{LeavesFewer};
+ghost use Rattle.file_plans.specs.Turns.{IsSooner};
 ghost use Rattle.file_plans.specs.declared.sight.Sight.{Sight};
 ghost use Rattle.file_plans.specs.declared.stage.Change.{Change};
 ghost use Rattle.file_plans.specs.declared.stage.Stage.{Stage};
@@ -34,7 +34,7 @@ pub fn locks<D: Device>(
 ) -> Result<(Step, Stage), StepNo>
     requires stands { At world.old cache.now core.old (Stage.Locks change) }
     ensures went { IfOk result (λ r. Went world.old world.new cache.now core.old core.new (Stage.Locks change) r.0 r.1) }
-    ensures less { IfOk result (λ r. LeavesFewer world.old.locks.geometry (Stage.Locks change) r.0.next r.1) }
+    ensures sooner { IfOk result (λ r. IsSooner world.old cache.now core.old (Stage.Locks change) world.new cache.now core.new r.0.next r.1) }
     ensures cut { IfErr result (IsCutAt world.old world.new core.old (Stage.Locks change)) }
     ensures others { Others core.old.host world.old world.new }
 {
@@ -60,7 +60,7 @@ pub fn fetches<D: Device>(
 ) -> Result<(Step, Stage), StepNo>
     requires stands { At world.old cache.now core.old (Stage.Fetches change) }
     ensures went { IfOk result (λ r. Went world.old world.new cache.now core.old core.new (Stage.Fetches change) r.0 r.1) }
-    ensures less { IfOk result (λ r. LeavesFewer world.old.locks.geometry (Stage.Fetches change) r.0.next r.1) }
+    ensures sooner { IfOk result (λ r. IsSooner world.old cache.now core.old (Stage.Fetches change) world.new cache.now core.new r.0.next r.1) }
     ensures cut { IfErr result (IsCutAt world.old world.new core.old (Stage.Fetches change)) }
     ensures others { Others core.old.host world.old world.new }
 {
@@ -84,7 +84,7 @@ pub fn changes<D: Device>(
 ) -> Result<(Step, Stage), StepNo>
     requires stands { At world.old cache.now core.old (Stage.Changes change group) }
     ensures went { IfOk result (λ r. Went world.old world.new cache.now core.old core.new (Stage.Changes change group) r.0 r.1) }
-    ensures less { IfOk result (λ r. LeavesFewer world.old.locks.geometry (Stage.Changes change group) r.0.next r.1) }
+    ensures sooner { IfOk result (λ r. IsSooner world.old cache.now core.old (Stage.Changes change group) world.new cache.now core.new r.0.next r.1) }
     ensures cut { IfErr result (IsCutAt world.old world.new core.old (Stage.Changes change group)) }
     ensures others { Others core.old.host world.old world.new }
 {
@@ -104,7 +104,7 @@ fn drops<D: Device>(
 ) -> Result<(Step, Stage), StepNo>
     requires stands { At world.old cache.now core.old (Stage.Changes (Change.Drop number) group) }
     ensures went { IfOk result (λ r. Went world.old world.new cache.now core.old core.new (Stage.Changes (Change.Drop number) group) r.0 r.1) }
-    ensures less { IfOk result (λ r. LeavesFewer world.old.locks.geometry (Stage.Changes (Change.Drop number) group) r.0.next r.1) }
+    ensures sooner { IfOk result (λ r. IsSooner world.old cache.now core.old (Stage.Changes (Change.Drop number) group) world.new cache.now core.new r.0.next r.1) }
     ensures cut { IfErr result (IsCutAt world.old world.new core.old (Stage.Changes (Change.Drop number) group)) }
     ensures others { Others core.old.host world.old world.new }
 {
@@ -129,7 +129,7 @@ fn purges<D: Device>(
 ) -> Result<(Step, Stage), StepNo>
     requires stands { At world.old cache.now core.old (Stage.Changes (Change.Purge remains) group) }
     ensures went { IfOk result (λ r. Went world.old world.new cache.now core.old core.new (Stage.Changes (Change.Purge remains) group) r.0 r.1) }
-    ensures less { IfOk result (λ r. LeavesFewer world.old.locks.geometry (Stage.Changes (Change.Purge remains) group) r.0.next r.1) }
+    ensures sooner { IfOk result (λ r. IsSooner world.old cache.now core.old (Stage.Changes (Change.Purge remains) group) world.new cache.now core.new r.0.next r.1) }
     ensures cut { IfErr result (IsCutAt world.old world.new core.old (Stage.Changes (Change.Purge remains) group)) }
     ensures others { Others core.old.host world.old world.new }
 {
@@ -165,6 +165,7 @@ pub fn heads<D: Device>(
     requires stands { At world.old cache.now core.old Stage.Sees }
     requires sight { IsSight world.old.locks.geometry (kept_at cache.now core.old.host) core.old.call (Sight.Heads number) }
     ensures went { IfOk result (λ r. Went world.old world.new cache.now core.old core.new Stage.Sees r.0 r.1) }
+    ensures sooner { IfOk result (λ r. IsSooner world.old cache.now core.old Stage.Sees world.new cache.now core.new r.0.next r.1) }
     ensures cut { IfErr result (IsCutAt world.old world.new core.old Stage.Sees) }
     ensures others { Others core.old.host world.old world.new }
 {

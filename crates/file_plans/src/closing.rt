@@ -3,7 +3,7 @@ ghost use Rattle.std.specs.Prelude.{◌<◌, IfErr, IfOk};
 ghost use Rattle.file_plans.specs.Keeps.{KeepsWritten};
 ghost use Rattle.file_plans.specs.Stands.{At};
 ghost use Rattle.file_plans.specs.Went.{IsCutAt, LeavesOthers, Went};
-ghost use Rattle.file_plans.specs.Writes.{IsNearer, LeavesFewer};
+ghost use Rattle.file_plans.specs.Turns.{IsSooner};
 ghost use Rattle.file_plans.specs.declared.stage.Stage.{Stage};
 ghost use Rattle.host_facts.specs.Others.{Others};
 ghost use Rattle.vol_layout.specs.Ranges.{HasTable};
@@ -28,7 +28,7 @@ pub fn applies<D: Device>(
 ) -> Result<(Step, Stage), StepNo>
     requires stands { At world.old cache.old core.old (Stage.Applies applying) }
     ensures went { IfOk result (λ r. Went world.old world.new cache.new core.old core.new (Stage.Applies applying) r.0 r.1) }
-    ensures less { IfOk result (λ r. LeavesFewer world.old.locks.geometry (Stage.Applies applying) r.0.next r.1) }
+    ensures sooner { IfOk result (λ r. IsSooner world.old cache.old core.old (Stage.Applies applying) world.new cache.new core.new r.0.next r.1) }
     ensures cut { IfErr result (IsCutAt world.old world.new core.old (Stage.Applies applying)) }
     ensures others { Others core.old.host world.old world.new }
     ensures leaves { LeavesOthers core.old.host cache.old cache.new }
@@ -67,7 +67,7 @@ pub fn frees<D: Device>(
 ) -> Result<(Step, Stage), StepNo>
     requires stands { At world.old cache.now core.old Stage.Frees }
     ensures went { IfOk result (λ r. Went world.old world.new cache.now core.old core.new Stage.Frees r.0 r.1) }
-    ensures less { IfOk result (λ r. IsNearer world.old.locks.geometry core.old Stage.Frees core.new r.0.next r.1) }
+    ensures sooner { IfOk result (λ r. IsSooner world.old cache.now core.old Stage.Frees world.new cache.now core.new r.0.next r.1) }
     ensures cut { IfErr result (IsCutAt world.old world.new core.old Stage.Frees) }
     ensures others { Others core.old.host world.old world.new }
 {

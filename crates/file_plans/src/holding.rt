@@ -1,6 +1,7 @@
 // The stages in which a host takes the hold of its file, or gives a read hold back.
 ghost use Rattle.std.specs.Prelude.{IfErr, IfOk};
 ghost use Rattle.file_plans.specs.Stands.{At};
+ghost use Rattle.file_plans.specs.Turns.{IsSooner};
 ghost use Rattle.file_plans.specs.Went.{IsCutAt, IsHeldBehind, IsReadBehind, Went};
 ghost use Rattle.host_facts.specs.Others.{Others};
 
@@ -23,6 +24,7 @@ pub fn writes<D: Device>(
 ) -> Result<(Step, Stage), StepNo>
     requires stands { At world.old cache.now core.old (Stage.Writes taking) }
     ensures went { IfOk result (λ r. Went world.old world.new cache.now core.old core.new (Stage.Writes taking) r.0 r.1) }
+    ensures sooner { IfOk result (λ r. IsSooner world.old cache.now core.old (Stage.Writes taking) world.new cache.now core.new r.0.next r.1) }
     ensures cut { IfErr result (IsCutAt world.old world.new core.old (Stage.Writes taking)) }
     ensures others { Others core.old.host world.old world.new }
 {
@@ -59,6 +61,7 @@ pub fn reads<D: Device>(
 ) -> Result<(Step, Stage), StepNo>
     requires stands { At world.old cache.now core.old (Stage.Reads taking) }
     ensures went { IfOk result (λ r. Went world.old world.new cache.now core.old core.new (Stage.Reads taking) r.0 r.1) }
+    ensures sooner { IfOk result (λ r. IsSooner world.old cache.now core.old (Stage.Reads taking) world.new cache.now core.new r.0.next r.1) }
     ensures cut { IfErr result (IsCutAt world.old world.new core.old (Stage.Reads taking)) }
     ensures others { Others core.old.host world.old world.new }
 {

@@ -13,13 +13,18 @@
 //!   rely on stays (`Others`), and what is kept for them (`LeavesOthers`).
 //! - A plan stands at its first step where its host is ready, and the notes of a host at rest agree with it (`begin_stands`, `begin_noted`);
 //!   and so do both with the digest that was handed in (`supply_stands`, `supply_noted`).
-//! - Over the calls of other hosts a plan stands, and the notes agree with it (`plan_still`, `agrees_still`).
+//! - Over a step of another host, which may have changed what is kept for that host beside what the volume holds, a plan stands and the
+//!   notes agree with it (`plan_lasts`); and a host between two commands rests still, with what is kept for it (`rest_lasts`).
 //! - What is kept of a file's tables for a host is what they spell, and none is kept of a file that it does not hold (`IsCached`): a host
 //!   that tries for a hold, or gives one up, forgets what it kept of the file.
 //! - `look`: what a call does by the kept tables is right by what they say (`IsSight`): which table it still needs, whether the reply
 //!   is settled, which block it reads, writes in place, writes afresh or drops, which remains at or past the end become holes first.
-//! - Once a call has its tables, fewer steps are left at each step, till its record is in the tables and its locks are free
-//!   (`steps_left`, `step_nearer`).
+//! - Behind each step that goes on fewer turns are left (`IsSooner`), whatever other hosts do in between: behind one of them no more are
+//!   left (`turns_last`). A digest that is handed in leaves fewer too (`supply_sooner`), and as many are left while it is waited for
+//!   (`turns_waiting`). Where a plan stands one is left (`turns_some`), so it takes no more steps than it has turns at its first stage. These
+//!   are bounded by the geometry, and less than 2^28 (`begin_few`): a call looks at the tables of its file, and writes a record for its
+//!   place and one at most for each pointer that is to become a hole first. A read of a host that has the hold makes at most three calls
+//!   of the device (`read_few`).
 #![tactic(auto)]
 
 mod acting;

@@ -1,10 +1,12 @@
 // A command on a file as a plan: its steps, one device call each.
 ghost use Rattle.std.specs.Prelude.{◌≡◌, IfErr, IfOk, []};
 ghost use Rattle.file_plans.specs.Calls.{Runs};
-ghost use Rattle.file_plans.specs.Plans.{HasStepped, IsUntouched, first_of};
+ghost use Rattle.file_plans.specs.Plans.{HasStepped, first_of};
 ghost use Rattle.file_plans.specs.Stands.{At};
+ghost use Rattle.file_plans.specs.Turns.{IsSooner};
 ghost use Rattle.file_plans.specs.Went.{LeavesOthers};
 ghost use Rattle.host_facts.specs.Others.{Others};
+ghost use Rattle.plan_parts.specs.Cuts.{IsUntouched};
 ghost use Rattle.vol_base.specs.declared.command.Command.{Command};
 
 use crate::call::FileCall;
@@ -81,7 +83,8 @@ impl FilePlan {
     ) -> Result<Step, NoMemory>
         requires stands { At world.old cache.old self.old.core self.old.stage }
         ensures step { IfOk result (λ step. HasStepped world.old world.new cache.new self.old.core self.new.core self.old.stage step self.new.stage step.next) }
-        ensures none { IfErr result (λ e. (command : Command) → Runs command self.old.core.call → IsUntouched world.old world.new self.old.core.host) }
+        ensures sooner { IfOk result (λ step. IsSooner world.old cache.old self.old.core self.old.stage world.new cache.new self.new.core step.next self.new.stage) }
+        ensures none { IfErr result (λ e. (command : Command) → Runs command self.old.core.call → IsUntouched self.old.core.host world.old world.new) }
         ensures others { Others self.old.core.host world.old world.new }
         ensures leaves { LeavesOthers self.old.core.host cache.old cache.new }
     {
@@ -108,7 +111,8 @@ fn goes<D: Device>(
     requires stands { At world.old cache.old core.old stage }
     requires host { host ≡ core.old.host }
     ensures step { IfOk result (λ r. HasStepped world.old world.new cache.new core.old core.new stage r.0 r.1 r.0.next) }
-    ensures none { IfErr result (λ e. (command : Command) → Runs command core.old.call → IsUntouched world.old world.new core.old.host) }
+    ensures sooner { IfOk result (λ r. IsSooner world.old cache.old core.old stage world.new cache.new core.new r.0.next r.1) }
+    ensures none { IfErr result (λ e. (command : Command) → Runs command core.old.call → IsUntouched core.old.host world.old world.new) }
     ensures others { Others core.old.host world.old world.new }
     ensures leaves { LeavesOthers core.old.host cache.old cache.new }
 {

@@ -4,7 +4,7 @@ ghost use Rattle.std.specs.Option.{option_to_list};
 ghost use Rattle.call_effects.specs.Purges.{counted, emptied, purged};
 ghost use Rattle.file_plans.specs.Bases.{IsCached};
 ghost use Rattle.file_plans.specs.Calls.{file_of};
-ghost use Rattle.file_plans.specs.Commits.{HasCommitted, bound_behind, counts_of, indexes_of, lowered_in, lowest_from};
+ghost use Rattle.file_plans.specs.Commits.{HasCommitted, LeavesPurge, bound_behind, counts_of, indexes_of, lowered_in, lowest_from};
 ghost use Rattle.file_plans.specs.Says.{AreAscending};
 ghost use Rattle.file_plans.specs.Sights.{IsSight};
 ghost use Rattle.file_plans.specs.declared.remains.Remain.{Remain};
@@ -53,6 +53,7 @@ pub fn commit_purge<D: Device>(
     requires group { IsKept world.old host group }
     requires which { IfSome (slice_get remains.now 0) (λ r. group.which ≡ table_of (Field.Count r.number)) }
     ensures went { IfOk result (HasCommitted host world.old world.new call.now None (purged (file_of call.now) (indexes_of remains.now) (counts_of group.table remains.now))) }
+    ensures left { IfOk result (λ a. LeavesPurge (kept_at cache.now host) (file_of call.now) remains.now group a.left) }
     ensures cut { IfErr result (IsCut host world.old world.new) }
     ensures others { Others host world.old world.new }
 {

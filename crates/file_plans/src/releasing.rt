@@ -2,6 +2,7 @@
 ghost use Rattle.std.specs.Prelude.{◌≡◌, IfErr, IfOk, None};
 ghost use Rattle.file_plans.specs.Sights.{IsSight};
 ghost use Rattle.file_plans.specs.Stands.{At};
+ghost use Rattle.file_plans.specs.Turns.{IsSooner};
 ghost use Rattle.file_plans.specs.Went.{IsCutAt, LeavesOthers, Went};
 ghost use Rattle.held_cache.specs.Kept.{kept_at};
 ghost use Rattle.host_facts.specs.Others.{Others};
@@ -28,6 +29,7 @@ pub fn clears<D: Device>(
     requires stands { At world.old cache.old core.old Stage.Sees }
     requires sight { IsSight world.old.locks.geometry (kept_at cache.old core.old.host) core.old.call (Sight.Clear) }
     ensures went { IfOk result (λ r. Went world.old world.new cache.new core.old core.new Stage.Sees r.0 r.1) }
+    ensures sooner { IfOk result (λ r. IsSooner world.old cache.old core.old Stage.Sees world.new cache.new core.new r.0.next r.1) }
     ensures cut { IfErr result (IsCutAt world.old world.new core.old Stage.Sees) }
     ensures others { Others core.old.host world.old world.new }
     ensures leaves { LeavesOthers core.old.host cache.old cache.new }
@@ -52,6 +54,7 @@ pub fn gives_back<D: Device>(
 ) -> Result<(Step, Stage), StepNo>
     requires stands { At world.old cache.old core.old (Stage.GivesBack taking) }
     ensures went { IfOk result (λ r. Went world.old world.new cache.new core.old core.new (Stage.GivesBack taking) r.0 r.1) }
+    ensures sooner { IfOk result (λ r. IsSooner world.old cache.old core.old (Stage.GivesBack taking) world.new cache.new core.new r.0.next r.1) }
     ensures cut { IfErr result (IsCutAt world.old world.new core.old (Stage.GivesBack taking)) }
     ensures others { Others core.old.host world.old world.new }
     ensures leaves { LeavesOthers core.old.host cache.old cache.new }

@@ -5,6 +5,7 @@ ghost use Rattle.file_plans.specs.Calls.{file_of};
 ghost use Rattle.file_plans.specs.Says.{ArePacked};
 ghost use Rattle.file_plans.specs.Sights.{IsSight};
 ghost use Rattle.file_plans.specs.Stands.{At};
+ghost use Rattle.file_plans.specs.Turns.{IsSooner};
 ghost use Rattle.file_plans.specs.Went.{IsCutAt, IsSeen, LeavesOthers, Went};
 ghost use Rattle.held_cache.specs.Kept.{kept_at};
 ghost use Rattle.host_facts.specs.Others.{Others};
@@ -53,6 +54,7 @@ pub fn needs<D: Device>(
     requires stands { At world.old cache.old core.old Stage.Sees }
     requires sight { IsSight world.old.locks.geometry (kept_at cache.old core.old.host) core.old.call (Sight.Needs which) }
     ensures went { IfOk result (λ r. Went world.old world.new cache.new core.old core.new Stage.Sees r.0 r.1) }
+    ensures sooner { IfOk result (λ r. IsSooner world.old cache.old core.old Stage.Sees world.new cache.new core.new r.0.next r.1) }
     ensures cut { IfErr result (IsCutAt world.old world.new core.old Stage.Sees) }
     ensures others { Others core.old.host world.old world.new }
     ensures leaves { LeavesOthers core.old.host cache.old cache.new }
@@ -96,6 +98,7 @@ pub fn confirms<D: Device>(
     requires stands { At world.old cache.now core.old Stage.Sees }
     requires sight { IsSight world.old.locks.geometry (kept_at cache.now core.old.host) core.old.call (Sight.Settled reply) }
     ensures went { IfOk result (λ r. Went world.old world.new cache.now core.old core.new Stage.Sees r.0 r.1) }
+    ensures sooner { IfOk result (λ r. IsSooner world.old cache.now core.old Stage.Sees world.new cache.now core.new r.0.next r.1) }
     ensures cut { IfErr result (IsCutAt world.old world.new core.old Stage.Sees) }
     ensures others { Others core.old.host world.old world.new }
 {
@@ -121,6 +124,7 @@ pub fn shows<D: Device>(
     requires stands { At world.old cache.now core.old Stage.Sees }
     requires sight { IsSight world.old.locks.geometry (kept_at cache.now core.old.host) core.old.call (Sight.Shows number) }
     ensures went { IfOk result (λ r. Went world.old world.new cache.now core.old core.new Stage.Sees r.0 r.1) }
+    ensures sooner { IfOk result (λ r. IsSooner world.old cache.now core.old Stage.Sees world.new cache.now core.new r.0.next r.1) }
     ensures cut { IfErr result (IsCutAt world.old world.new core.old Stage.Sees) }
     ensures others { Others core.old.host world.old world.new }
 {
@@ -147,6 +151,7 @@ pub fn own<D: Device>(
     requires stands { At world.old cache.now core.old Stage.Sees }
     requires sight { IsSight world.old.locks.geometry (kept_at cache.now core.old.host) core.old.call (Sight.Own number) }
     ensures went { IfOk result (λ r. Went world.old world.new cache.now core.old core.new Stage.Sees r.0 r.1) }
+    ensures sooner { IfOk result (λ r. IsSooner world.old cache.now core.old Stage.Sees world.new cache.now core.new r.0.next r.1) }
     ensures cut { IfErr result (IsCutAt world.old world.new core.old Stage.Sees) }
     ensures others { Others core.old.host world.old world.new }
 {

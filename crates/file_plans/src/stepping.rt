@@ -4,6 +4,7 @@ ghost use Rattle.std.specs.Prelude.{None, false};
 ghost use Rattle.file_plans.specs.Calls.{block_of};
 ghost use Rattle.file_plans.specs.Plans.{HasStepped, IsRefused};
 ghost use Rattle.file_plans.specs.Stands.{At};
+ghost use Rattle.file_plans.specs.Turns.{IsSooner};
 ghost use Rattle.file_plans.specs.Went.{LeavesOthers};
 ghost use Rattle.host_facts.specs.Others.{Others};
 
@@ -31,6 +32,7 @@ pub fn steps<D: Device>(
 ) -> Result<(Step, Stage), StepNo>
     requires stands { At world.old cache.old core.old stage }
     ensures step { IfOk result (λ r. HasStepped world.old world.new cache.new core.old core.new stage r.0 r.1 r.0.next) }
+    ensures sooner { IfOk result (λ r. IsSooner world.old cache.old core.old stage world.new cache.new core.new r.0.next r.1) }
     ensures cut { IfErr result (IsRefused world.old world.new core.old stage) }
     ensures others { Others core.old.host world.old world.new }
     ensures leaves { LeavesOthers core.old.host cache.old cache.new }

@@ -4,7 +4,8 @@ ghost use Rattle.std.specs.Prelude.{◌≡◌, ◌↔◌, IfErr, IfOk, IsTrue, t
 ghost use Rattle.file_plans.specs.Calls.{is_write};
 ghost use Rattle.file_plans.specs.Stands.{At};
 ghost use Rattle.file_plans.specs.Went.{IsCutAt, Went};
-ghost use Rattle.file_plans.specs.Writes.{LeavesFewer, behind_found, behind_other, has_count, kept_shared, puts_for};
+ghost use Rattle.file_plans.specs.Turns.{IsSooner};
+ghost use Rattle.file_plans.specs.Writes.{behind_found, behind_other, has_count, kept_shared, puts_for};
 ghost use Rattle.file_plans.specs.declared.call.FileCall.{FileCall};
 ghost use Rattle.file_plans.specs.declared.stage.Stage.{Stage};
 ghost use Rattle.host_facts.specs.Others.{Others};
@@ -35,7 +36,7 @@ pub fn searches<D: Device>(
 ) -> Result<(Step, Stage), StepNo>
     requires stands { At world.old cache.now core.old (Stage.Searches old shared search) }
     ensures went { IfOk result (λ r. Went world.old world.new cache.now core.old core.new (Stage.Searches old shared search) r.0 r.1) }
-    ensures less { IfOk result (λ r. LeavesFewer world.old.locks.geometry (Stage.Searches old shared search) r.0.next r.1) }
+    ensures sooner { IfOk result (λ r. IsSooner world.old cache.now core.old (Stage.Searches old shared search) world.new cache.now core.new r.0.next r.1) }
     ensures cut { IfErr result (IsCutAt world.old world.new core.old (Stage.Searches old shared search)) }
     ensures others { Others core.old.host world.old world.new }
 {
@@ -72,7 +73,7 @@ pub fn locks_shared<D: Device>(
 ) -> Result<(Step, Stage), StepNo>
     requires stands { At world.old cache.now core.old (Stage.LocksShared old number group) }
     ensures went { IfOk result (λ r. Went world.old world.new cache.now core.old core.new (Stage.LocksShared old number group) r.0 r.1) }
-    ensures less { IfOk result (λ r. LeavesFewer world.old.locks.geometry (Stage.LocksShared old number group) r.0.next r.1) }
+    ensures sooner { IfOk result (λ r. IsSooner world.old cache.now core.old (Stage.LocksShared old number group) world.new cache.now core.new r.0.next r.1) }
     ensures cut { IfErr result (IsCutAt world.old world.new core.old (Stage.LocksShared old number group)) }
     ensures others { Others core.old.host world.old world.new }
 {
@@ -102,7 +103,7 @@ pub fn fetches_shared<D: Device>(
 ) -> Result<(Step, Stage), StepNo>
     requires stands { At world.old cache.now core.old (Stage.FetchesShared old number group) }
     ensures went { IfOk result (λ r. Went world.old world.new cache.now core.old core.new (Stage.FetchesShared old number group) r.0 r.1) }
-    ensures less { IfOk result (λ r. LeavesFewer world.old.locks.geometry (Stage.FetchesShared old number group) r.0.next r.1) }
+    ensures sooner { IfOk result (λ r. IsSooner world.old cache.now core.old (Stage.FetchesShared old number group) world.new cache.now core.new r.0.next r.1) }
     ensures cut { IfErr result (IsCutAt world.old world.new core.old (Stage.FetchesShared old number group)) }
     ensures others { Others core.old.host world.old world.new }
 {
@@ -134,7 +135,7 @@ pub fn puts<D: Device>(
 ) -> Result<(Step, Stage), StepNo>
     requires stands { At world.old cache.now core.old (Stage.Puts fresh) }
     ensures went { IfOk result (λ r. Went world.old world.new cache.now core.old core.new (Stage.Puts fresh) r.0 r.1) }
-    ensures less { IfOk result (λ r. LeavesFewer world.old.locks.geometry (Stage.Puts fresh) r.0.next r.1) }
+    ensures sooner { IfOk result (λ r. IsSooner world.old cache.now core.old (Stage.Puts fresh) world.new cache.now core.new r.0.next r.1) }
     ensures cut { IfErr result (IsCutAt world.old world.new core.old (Stage.Puts fresh)) }
     ensures others { Others core.old.host world.old world.new }
 {
@@ -157,7 +158,7 @@ pub fn fills<D: Device>(
 ) -> Result<(Step, Stage), StepNo>
     requires stands { At world.old cache.now core.old (Stage.Fills fresh) }
     ensures went { IfOk result (λ r. Went world.old world.new cache.now core.old core.new (Stage.Fills fresh) r.0 r.1) }
-    ensures less { IfOk result (λ r. LeavesFewer world.old.locks.geometry (Stage.Fills fresh) r.0.next r.1) }
+    ensures sooner { IfOk result (λ r. IsSooner world.old cache.now core.old (Stage.Fills fresh) world.new cache.now core.new r.0.next r.1) }
     ensures cut { IfErr result (IsCutAt world.old world.new core.old (Stage.Fills fresh)) }
     ensures others { Others core.old.host world.old world.new }
 {
@@ -207,7 +208,8 @@ fn kept_shared(old: Option<DataNo>, shared: Option<Kept>, kept: Kept) -> Option<
     }
 }
 
-// What comes behind a found block.
+// What comes behind a found block. LLVM takes minutes for `searches` where this stands inside it: each way moves whole tables.
+#[inline(never)]
 fn behind_found(old: Option<DataNo>, shared: Option<Kept>, number: DataNo, group: Kept) -> Stage
     ensures { result ≡ behind_found old shared number group }
 {

@@ -11,6 +11,7 @@ pub mod Links
 pub mod Mappings
 pub mod Numbers
 pub mod Pointers
+pub mod Quiet
 pub mod Records
 pub mod Settled
 pub mod Spelled

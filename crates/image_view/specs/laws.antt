@@ -5,6 +5,7 @@ pub mod FormatLaws
 pub mod FrameLaws
 pub mod GeometryLaws
 pub mod JournalLaws
+pub mod QuietLaws
 pub mod SumLaws
 pub mod UseLaws
 pub mod ValidLaws

@@ -7,6 +7,8 @@
 //!   write to one kind of block leaves; how standing edits, logical numbers and uses move when a record is made, applied and
 //!   emptied; that counts balance for each kind of record, and that an image stays counted where they do and marks are kept; that
 //!   two journals of a valid image edit no common field; that a formatted image is valid, without a file and without a mapping;
+//!   that on a valid image whose slots are all free no lock is held, no record stands, and each number stands in its table
+//!   (`free_slots_leave_nothing`);
 //!   that a write of a hint or data block keeps an image valid; when files stay or change. Not proved yet: that each kind of record
 //!   keeps marks, and that a whole image stays valid when a record is made, applied or emptied, or a slot or lock is written.
 //! - `read_pointer`, `write_pointer`: exact, by the number of a pointer. `slow`: a plain program whose contract is the definitions,

@@ -11,6 +11,8 @@ mod files;
 #[cfg(test)]
 mod hosts;
 #[cfg(test)]
+mod lock_calls;
+#[cfg(test)]
 mod rewrites;
 #[cfg(test)]
 mod spoiled;
@@ -24,5 +26,3 @@ mod untold;
 mod world_blocks;
 #[cfg(test)]
 mod world_tables;
-#[cfg(test)]
-mod worlds;

@@ -2,15 +2,14 @@
 ghost use Rattle.std.specs.Prelude.{IfSome};
 ghost use Rattle.host_facts.specs.Hints.{IsHintPlace};
 
-use crate::hosts::Asked;
-use crate::worlds::Worlds;
+use crate::hosts::{Asked, Hosts};
 use table_blocks::{block_of, table_in};
 use vol_base::{Block, DataNo, FileNo, HostNo, Packed};
 use vol_layout::{Field, Kind, PER_TABLE, Resource, Table};
 use world_callers::rewrite;
 
 #[tactic(auto, using(crate::proofs::WorldLaws::still, crate::proofs::UntoldLaws::sure))]
-impl Worlds {
+impl Hosts {
     pub fn write_fresh(&mut self, host: HostNo, number: DataNo, block: &Block) -> Asked<()> {
         let count = Field::Count(number);
         if !self.has_field(count) {

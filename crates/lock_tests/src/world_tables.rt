@@ -7,8 +7,7 @@ ghost use Rattle.vol_layout.specs.Ranges.{HasTable};
 ghost use Rattle.image_view.specs.Pointers.{named};
 ghost use Rattle.table_blocks.specs.Tables.{IsPackingOf};
 
-use crate::hosts::Asked;
-use crate::worlds::Worlds;
+use crate::hosts::{Asked, Hosts};
 use journal_block::Record;
 use table_blocks::{block_of, number, table_in};
 use vol_base::{DataNo, FileNo, HostNo, Packed, SlotNo};
@@ -16,7 +15,7 @@ use vol_layout::{Edit, Field, Resource, Table};
 use world_callers::{punch, replay};
 
 #[tactic(auto, using(crate::proofs::WorldLaws::still, crate::proofs::UntoldLaws::sure))]
-impl Worlds {
+impl Hosts {
     // Whether the host holds the resource of the table, which the volume has.
     fn holds_table(&self, host: HostNo, which: Table) -> bool
         ensures table { IsTrue result → HasTable self.now.world.locks.geometry which }

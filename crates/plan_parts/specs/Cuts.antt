@@ -48,3 +48,10 @@ cut_by Fenced = Some cuts.Fenced
 cut_by Failed = Some cuts.Fault
 cut_by NoMemory = None
 cut_by (Bad place) = Some (cuts.Bad place)
+
+-- nothing was done for want of memory, of which the device had none left
+pub record IsUntouched (h : ℕ) (v w : WorldView) : Type 0 where
+  pub state : w.locks.disk.state ≡ v.locks.disk.state
+  pub geometry : w.locks.geometry ≡ v.locks.geometry
+  pub memory : host_at w.locks h ≡ host_at v.locks h
+  pub room : v.locks.disk.room ≡ 0

@@ -1,3 +1,5 @@
+pub mod FileLaws
+pub mod RecordLaws
 pub mod SlotLaws
 pub mod UntoldLaws
 pub mod WorldLaws

@@ -13,12 +13,14 @@ use Rattle.slot_lock_blocks.specs.declared.slot.Slot.TheVariants.{Free, Live, Re
 use Rattle.lock_store.specs.Events.{Notes}
 use Rattle.lock_store.specs.Memories.{dropped}
 use Rattle.lock_store.specs.Views.{LocksView, host_at, key_at, told_of}
+use Rattle.disk_locks.specs.Consistent.{Consistent}
 use Rattle.disk_locks.specs.Others as locks'
 use Rattle.host_facts.specs.Others.{Others}
-use Rattle.host_facts.specs.Views.{WorldView}
+use Rattle.host_facts.specs.Views.{WorldView, with_locks}
+use Rattle.host_facts.specs.laws.KeptLaws.{others_lent, others_then}
 use Rattle.recover_plan.specs.PlanSteps.{AreWatched}
 use Rattle.recover_plan.specs.Nexts.{HasStepped}
-use Rattle.recover_plan.specs.Plans.{PlanStands, StandsBehind, step_of}
+use Rattle.recover_plan.specs.Plans.{PlanStands, StandsBehind, later_of, step_of}
 use Rattle.recover_plan.specs.declared.plan.Come.{Come}
 use Rattle.recover_plan.specs.declared.plan.Come.TheVariants as comes
 use Rattle.recover_plan.specs.declared.plan.Doing.{Doing}
@@ -82,6 +84,24 @@ ended h x v w watch after doing later step answer same is next =
     behind (comes.More more) next stands = absurd cc
     behind (comes.Answered other) next stands = stands
     behind (comes.Uncalled other) next stands = stands
+
+-- one that was not answered goes on
+pub goes_on : (h : ℕ) (v w : WorldView) (watch after : List (Option Look)) (doing later : Doing) (step : Step)
+    → HasStepped h v w watch after doing later step → ((answer : Answer) → step.next ≡ Answered answer → ⊥) → PlanStands w h after later
+goes_on h v w watch after doing later step is unanswered =
+    subst (λ (d : Doing). PlanStands w h after d) (sym is.later_is) (cases is.come (ap (λ (s : Step). s.next) is.step_is) is.stands)
+  where
+    cases : (come : Come) → step.next ≡ (step_of come).next → StandsBehind w h after doing come → PlanStands w h after (later_of come)
+    cases (comes.More more) next stands = stands.0
+    cases (comes.Answered answer) next stands = absurd (unanswered answer next)
+    cases (comes.Uncalled answer) next stands = absurd (unanswered answer next)
+
+-- a host that is dropped leaves the others as they are
+pub drop_leaves : (v : WorldView) (h : ℕ) (k l m : LocksView) (w : WorldView) → k ≡ v.locks → Consistent k → l ≡ v.locks
+    → locks'.Others h l m → Others h (with_locks v m) w → Others h v w
+drop_leaves v h k l m w first consistent same dropped then =
+    let is = subst Consistent first consistent in
+    others_then v (with_locks v m) w h is (others_lent v h m is (subst (λ (x : LocksView). locks'.Others h x m) same dropped)) then
 
 -- nothing was seen
 none_at : (of : ℕ) → look_at nothing of ≡ None

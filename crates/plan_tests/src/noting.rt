@@ -1,6 +1,7 @@
 // A device that notes each call which it hands on, so that a test compares all calls with those that the rules give.
 ghost use Rattle.std.specs.Prelude.{◌≡◌};
 
+use crate::trace::Trace;
 use shared_disk::{Device, DiskNo, Tested};
 use vol_base::{Block, HostNo, Key};
 
@@ -15,23 +16,25 @@ pub enum Call {
     Fence(Key),
 }
 
-/// A device over another one, with the first 64 calls.
+/// A device over another one, with the first 64 calls, and the text of all.
 #[derive(Drop)]
 pub struct Noting<D: Device> {
     disk: D,
     calls: [Call; 64],
     count: usize,
+    trace: Trace,
 }
 
 impl<D: Device> Noting<D> {
     /// A device over this one, with no call.
-    pub fn over(disk: D) -> Noting<D>
+    pub fn over(disk: D, trace: Trace) -> Noting<D>
         ensures { result.disk ≡ disk }
     {
         Noting {
             disk,
             calls: [Call::Read(0); 64],
             count: 0,
+            trace,
         }
     }
 
@@ -52,6 +55,13 @@ impl<D: Device> Noting<D> {
             self.calls[self.count] = call;
             self.count += 1;
         }
+    }
+}
+
+impl<D: Device + Drop> Noting<D> {
+    /// The text of all calls.
+    pub fn into_text(self) -> String {
+        self.trace.into_text()
     }
 }
 
@@ -78,12 +88,16 @@ impl<D: Device> Device for Noting<D> {
 
     fn read(&mut self, key: Key, place: u64) -> Result<Block, DiskNo> {
         self.note(Call::Read(place));
-        self.disk.read(key, place)
+        let read = self.disk.read(key, place);
+        self.trace.add_read(key, place, &read);
+        read
     }
 
     fn write(&mut self, key: Key, place: u64, block: &Block) -> Result<(), DiskNo> {
         self.note(Call::Write(place));
-        self.disk.write(key, place, block)
+        let done = self.disk.write(key, place, block);
+        self.trace.add_write(key, place, block, &done);
+        done
     }
 
     fn test_and_set(
@@ -98,16 +112,19 @@ impl<D: Device> Device for Noting<D> {
             Ok(Tested::Found(_)) => Call::Found(place),
             _ => Call::Swap(place),
         });
+        self.trace.add_test_and_set(key, place, old, new, &tested);
         tested
     }
 
     fn register(&mut self, host: HostNo) -> Result<Key, DiskNo> {
         self.note(Call::Register(host));
+        self.trace.add_register(host);
         self.disk.register(host)
     }
 
     fn fence(&mut self, key: Key, target: Key) -> Result<(), DiskNo> {
         self.note(Call::Fence(target));
+        self.trace.add_fence(key, target);
         self.disk.fence(key, target)
     }
 

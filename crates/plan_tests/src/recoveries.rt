@@ -7,28 +7,31 @@ use crate::slots::{Eyes, MOST};
 use crate::steps::{FIRST, SECOND, expect, made};
 use crate::transactions::Created;
 use crate::worlds::Worlds;
+use recover_plan::LoneEnd;
 use std::process::Abort;
 use std::test::Fail;
 use vol_base::Answer::{self, Alive, Busy, Cut, Fine, Free, Joined, Recovered, Seen};
 use vol_base::Command::{self, Beat, Leave, Look, Recover};
 use vol_base::{CutBy, FileNo, HostNo, Key};
 
-fn joins(rt: &impl Abort, worlds: &mut Worlds, host: HostNo, key: Key) {
+/// A host joins from a free slot, and comes to this key.
+pub fn joins(rt: &impl Abort, worlds: &mut Worlds, host: HostNo, key: Key) {
     expect(rt, worlds.join(host, MOST), Some(Joined(key)));
 }
 
-// Hosts 0 and 1 join, by the same four calls as in `steps`.
-fn joined(rt: &impl Abort, worlds: &mut Worlds) {
+/// Hosts 0 and 1 join, by the same four calls as in `steps`.
+pub fn joined(rt: &impl Abort, worlds: &mut Worlds) {
     joins(rt, worlds, 0, FIRST);
     joins(rt, worlds, 1, SECOND);
 }
 
-fn locks(rt: &impl Abort, worlds: &mut Worlds, host: HostNo, file: FileNo) {
+/// A host takes a file that no other one holds.
+pub fn locks(rt: &impl Abort, worlds: &mut Worlds, host: HostNo, file: FileNo) {
     expect(rt, worlds.take_write(host, file), Some(Ok(Came::Taken)));
 }
 
-// A host runs a command to this answer.
-fn answers(
+/// A host runs a command to this answer.
+pub fn answers(
     rt: &impl Abort,
     worlds: &mut Worlds,
     eyes: &mut Eyes,
@@ -39,8 +42,8 @@ fn answers(
     expect(rt, worlds.plan(eyes, host, command, MOST), Some(answer));
 }
 
-// Three looks at a slot that stands still, of a host that remembers nothing of it.
-fn looks(rt: &impl Abort, worlds: &mut Worlds, eyes: &mut Eyes, host: HostNo, of: HostNo) {
+/// Three looks at a slot that stands still, of a host that remembers nothing of it.
+pub fn looks(rt: &impl Abort, worlds: &mut Worlds, eyes: &mut Eyes, host: HostNo, of: HostNo) {
     answers(rt, worlds, eyes, host, Look(of), Seen(1));
     answers(rt, worlds, eyes, host, Look(of), Seen(2));
     answers(rt, worlds, eyes, host, Look(of), Seen(3));
@@ -325,5 +328,70 @@ fn a_recovery_is_recovered(rt: HostRuntime) -> Result<(), Fail> {
     answers(&rt, &mut worlds, &mut two, 2, Recover(1), Recovered);
     joins(&rt, &mut worlds, 1, Key(81));
     made(&rt, worlds, &SECOND_RECOVERY);
+    Ok(())
+}
+
+// A host dies behind its claim of another one's slot. Then that one is alone, and recovers both.
+const ALONE: [Call; 34] = [
+    // Host 0 takes file 1, is seen three times, and its slot is claimed.
+    Swap(8),
+    Read(1),
+    Read(1),
+    Read(1),
+    Fence(FIRST),
+    Swap(1),
+    // It joins: its slot has an older key of its own and one of host 1, and both are taken off.
+    Register(0),
+    Found(1),
+    Fence(FIRST),
+    Fence(SECOND),
+    Swap(1),
+    Read(4),
+    Found(7),
+    Swap(8),
+    Found(9),
+    Found(10),
+    Found(11),
+    Swap(1),
+    // It reads the slot of host 1 once, and recovers it; and it reads two free slots.
+    Read(2),
+    Fence(SECOND),
+    Swap(2),
+    Read(5),
+    Found(7),
+    Found(8),
+    Found(9),
+    Found(10),
+    Found(11),
+    Swap(2),
+    Read(2),
+    Read(3),
+    // It joins once more over its own slot.
+    Register(0),
+    Found(1),
+    Fence(Key(48)),
+    Swap(1),
+];
+
+#[test]
+fn a_lone_host_recovers_all(rt: HostRuntime) -> Result<(), Fail> {
+    let mut worlds = Worlds::new(rt.alloc())?;
+    joined(&rt, &mut worlds);
+    let mut one = Eyes::new();
+    locks(&rt, &mut worlds, 0, 1);
+    looks(&rt, &mut worlds, &mut one, 1, 0);
+    expect(&rt, worlds.plan(&mut one, 1, Recover(0), 2), None);
+    let joined = Some(LoneEnd::Joined(Key(48)));
+    expect(&rt, worlds.join_alone(0, MOST), joined);
+    expect(
+        &rt,
+        worlds.recover_alone(0, 1, MOST),
+        Some(LoneEnd::Recovered),
+    );
+    expect(&rt, worlds.recover_alone(0, 1, MOST), Some(LoneEnd::Free));
+    expect(&rt, worlds.recover_alone(0, 2, MOST), Some(LoneEnd::Free));
+    expect(&rt, worlds.join_alone(0, 4), None);
+    expect(&rt, worlds.recover_alone(0, 1, MOST), None);
+    made(&rt, worlds, &ALONE);
     Ok(())
 }

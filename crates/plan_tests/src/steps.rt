@@ -28,7 +28,7 @@ fn join(rt: &impl Abort, worlds: &mut Worlds, host: HostNo, key: Key) {
 }
 
 // Two hosts, joined by four calls: slots stand from place 1 on.
-fn joined(rt: &impl Abort, worlds: &mut Worlds) {
+pub fn joined(rt: &impl Abort, worlds: &mut Worlds) {
     join(rt, worlds, 0, FIRST);
     join(rt, worlds, 1, SECOND);
 }

@@ -1,5 +1,5 @@
 // The world of a small volume, as a test calls it.
-ghost use Rattle.std.specs.Prelude.{◌≡◌, ◌≢◌, ◌<◌, ◌≤◌, [], Contains, IsTrue, None, drop, true};
+ghost use Rattle.std.specs.Prelude.{◌≡◌, ◌≢◌, ◌<◌, [], IsTrue, None, true};
 ghost use Rattle.lock_store.specs.Memories.{holds};
 ghost use Rattle.lock_store.specs.Views.{host_at, key_at, told_of};
 ghost use Rattle.plan_parts.specs.Holds.{IsOutside};
@@ -9,20 +9,24 @@ ghost use Rattle.vol_layout.specs.declared.kind.Resource.{Resource};
 
 use crate::holds::{self, Came};
 use crate::noting::Noting;
-use crate::slots::{Eyes, run};
+use crate::ready::{has_none, may_act, takes_none};
+use crate::slots::{Eyes, act, join};
+use crate::trace::Trace;
 use crate::transactions::{self, Created, Sought};
 use crate::untold::Untold;
+use crate::volumes::blocks_of;
+use crate::{alone, records};
 use disk_locks::Locks;
 use file_disk::StoredDisk;
-use lock_store::{Claim, HostState, StepNo};
+use lock_store::{Claim, StepNo};
 use meta_world::MetaWorld;
 use plan_parts::{confirm, free_lock};
+use recover_plan::LoneEnd;
 use shared_disk::DiskNo;
 use slot_lock_blocks::Slot;
 use std::alloc::Global;
 use vol_base::{Answer, Block, Command, FileNo, HostNo, Key, NoMemory};
-use vol_layout::{Geometry, Kind, Resource, Table};
-use watch::Watch;
+use vol_layout::{Geometry, Resource};
 
 /// The least volume of three hosts, two files and two groups, of 2,039 blocks.
 pub const GEOMETRY: Geometry = Geometry {
@@ -39,7 +43,7 @@ pub const GEOMETRY: Geometry = Geometry {
 /// not made where that does not stand: `None`.
 #[derive(Drop)]
 pub struct Worlds {
-    world: MetaWorld<Noting<StoredDisk<Untold>>>,
+    pub(crate) world: MetaWorld<Noting<StoredDisk<Untold>>>,
     ghost untold: { told_of world.locks ≡ None },
 }
 
@@ -54,18 +58,18 @@ impl Worlds {
 
     /// The same, but that from this group on no data block is free.
     pub fn full_from(alloc: Global, group: u8) -> Result<Worlds, NoMemory> {
-        let mut blocks = Vec::new(alloc);
-        for place in 0..GEOMETRY.total() {
-            let blank = GEOMETRY.blank(place);
-            let block = match GEOMETRY.kind(place) {
-                Some(Kind::Table(Table::Group(at))) if group <= at => full(blank),
-                _ => blank,
-            };
-            blocks.push(block).map_err(|_| NoMemory)?;
-        }
+        let blocks = blocks_of(alloc, &GEOMETRY, group, &[])?;
+        Worlds::over(alloc, blocks)
+    }
+
+    /// A volume of these blocks.
+    pub fn over(alloc: Global, blocks: Vec<Block>) -> Result<Worlds, NoMemory> {
         let disk = StoredDisk::over(alloc, Untold { blocks }, 0)?;
         Ok(Worlds {
-            world: MetaWorld::new(Locks::new(Noting::over(disk), GEOMETRY)),
+            world: MetaWorld::new(Locks::new(
+                Noting::over(disk, Trace::empty(alloc, &GEOMETRY)),
+                GEOMETRY,
+            )),
         })
     }
 
@@ -75,14 +79,14 @@ impl Worlds {
     }
 
     // Whether the volume has the host.
-    fn has(&self, host: HostNo) -> bool
+    pub(crate) fn has(&self, host: HostNo) -> bool
         ensures host { IsTrue result → host < self.now.world.locks.geometry.hosts }
         ensures small { IsTrue result → host < 16 }
     {
         host < self.world.locks().geometry().hosts
     }
 
-    fn is_joined(&self, host: HostNo) -> bool
+    pub(crate) fn is_joined(&self, host: HostNo) -> bool
         ensures host { IsTrue result → host < self.now.world.locks.geometry.hosts }
         ensures joined { IsTrue result → (host_at self.now.world.locks host).joined ≡ true }
     {
@@ -100,7 +104,7 @@ impl Worlds {
     }
 
     // Whether the joined host has the write hold of the file.
-    fn is_writer(&self, host: HostNo, file: FileNo) -> bool
+    pub(crate) fn is_writer(&self, host: HostNo, file: FileNo) -> bool
         ensures host { IsTrue result → host < self.now.world.locks.geometry.hosts }
         ensures joined { IsTrue result → (host_at self.now.world.locks host).joined ≡ true }
         ensures file { IsTrue result → file < self.now.world.locks.geometry.files }
@@ -127,32 +131,21 @@ impl Worlds {
     }
 
     // Whether the host may begin a command on slots, on a volume of three hosts.
-    fn is_ready(&self, host: HostNo) -> bool
+    pub(crate) fn is_ready(&self, host: HostNo) -> bool
         ensures host { IsTrue result → host < self.now.world.locks.geometry.hosts }
         ensures three { IsTrue result → self.now.world.locks.geometry.hosts ≡ 3 }
         ensures key { IsTrue result → key_at self.now.world.locks host ≢ 0 }
         ensures ready { IsTrue result → IsReady self.now.world host }
     {
-        if self.world.locks().geometry().hosts != 3 || !self.is_joined(host) {
-            return false;
-        }
-        self.world.locks().host(host).number() != 0 && self.takes_none(host)
+        may_act(&self.world, host)
     }
 
-    // Whether the host may begin a command on the slot of this other one.
-    fn is_other(&self, host: HostNo, of: HostNo) -> bool
-        ensures of { IsTrue result → of < self.now.world.locks.geometry.hosts }
-        ensures other { IsTrue result → of ≢ host }
-    {
-        self.has(of) && of != host
-    }
-
-    // Whether the host holds no part and no group, whose holds stand behind those of files.
+    // Whether the host holds no part and no group.
     fn takes_none(&self, host: HostNo) -> bool
         requires { host < self.now.world.locks.geometry.hosts }
         ensures { IsTrue result → IsTaking self.now.world host [] }
     {
-        has_none(self.world.locks().host(host), 64)
+        takes_none(&self.world, host)
     }
 }
 
@@ -250,6 +243,14 @@ impl Worlds {
         Some(transactions::create(&mut self.world, host, file, group, false))
     }
 
+    /// Takes the lock of group 0 and writes a record of two tables, behind which the host makes no call any more.
+    pub fn commit_two(&mut self, host: HostNo, file: FileNo) -> Asked<Created> {
+        if !self.may_create(host, file, 0) {
+            return None;
+        }
+        Some(records::commit_two(&mut self.world, host, file))
+    }
+
     pub fn search(&mut self, host: HostNo) -> Asked<Sought> {
         if !self.is_joined(host) || !self.takes_none(host) {
             return None;
@@ -258,7 +259,24 @@ impl Worlds {
     }
 }
 
-#[tactic(auto, using(crate::proofs::SlotLaws::seen, crate::proofs::SlotLaws::watched))]
+impl Worlds {
+    /// Runs a `join` of a lone host that has nothing in memory any more, by at most so many steps.
+    pub fn join_alone(&mut self, host: HostNo, most: u8) -> Option<LoneEnd> {
+        if !self.has(host) {
+            return None;
+        }
+        alone::join_alone(&mut self.world, host, most)
+    }
+
+    /// Runs the recovery of another host by a lone one.
+    pub fn recover_alone(&mut self, host: HostNo, of: HostNo, most: u8) -> Option<LoneEnd> {
+        if !self.is_ready(host) {
+            return None;
+        }
+        alone::recover_alone(&mut self.world, host, of, most)
+    }
+}
+
 impl Worlds {
     /// Runs a `leave`, a `beat`, or a `look` at or a `recover` of another host, by at most so many steps.
     pub fn plan(
@@ -271,56 +289,14 @@ impl Worlds {
         if !self.is_ready(host) {
             return None;
         }
-        match command {
-            Command::Leave => run(&mut self.world, &mut eyes.watch, host, Command::Leave, most),
-            Command::Beat => run(&mut self.world, &mut eyes.watch, host, Command::Beat, most),
-            Command::Look(of) if self.is_other(host, of) => {
-                run(
-                    &mut self.world,
-                    &mut eyes.watch,
-                    host,
-                    Command::Look(of),
-                    most,
-                )
-            }
-            Command::Recover(of) if self.is_other(host, of) => {
-                run(
-                    &mut self.world,
-                    &mut eyes.watch,
-                    host,
-                    Command::Recover(of),
-                    most,
-                )
-            }
-            _ => None,
-        }
+        act(&mut self.world, eyes, host, command, most)
     }
 
     /// Runs a `join` of a host that has nothing in memory any more, by at most so many steps.
-    #[tactic(auto, using(crate::proofs::UntoldLaws::stays))]
     pub fn join(&mut self, host: HostNo, most: u8) -> Option<Answer> {
         if !self.has(host) {
             return None;
         }
-        self.world.locks_mut().drop_host(host);
-        let mut watch = Watch::new();
-        run(&mut self.world, &mut watch, host, Command::Join, most)
+        join(&mut self.world, host, most)
     }
-}
-
-// The table with 1 as each of its numbers, which are of four bytes and stand behind 64.
-fn full(blank: Block) -> Block {
-    let mut table = blank;
-    for entry in 0..1008usize {
-        table.0[4 * entry + 67] = 1;
-    }
-    table
-}
-
-// Whether no hold stands in memory from this number on.
-fn has_none(memory: &HostState, from: usize) -> bool
-    requires { from ≤ 144 }
-    ensures { IsTrue result → Contains (drop from memory.now.held) true → ⊥ }
-{
-    !memory.held[from..].contains(&true)
 }

@@ -1,4 +1,9 @@
+pub mod CallsLeft
+pub mod HostStays
 pub mod Joins
+pub mod KnownTables
+pub mod LoneSteps
+pub mod Lones
 pub mod Nexts
 pub mod PlanSteps
 pub mod Plans

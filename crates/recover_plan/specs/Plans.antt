@@ -16,6 +16,8 @@ use Rattle.host_facts.specs.Facts.{locks_of}
 use Rattle.host_facts.specs.Views.{WorldView}
 use Rattle.host_runs.specs.Notes.{Notes}
 use Rattle.plan_parts.specs.Steps.{IsReady, OwesStep}
+use Rattle.recover_plan.specs.CallsLeft.{calls_left}
+use Rattle.recover_plan.specs.KnownTables.{TablesStay}
 use Rattle.recover_plan.specs.PlanSteps.{AreWatched, OpenNoted, RestsWith, called_step}
 use Rattle.recover_plan.specs.RecoverNotes.{IsUnderWay, StageNoted}
 use Rattle.recover_plan.specs.Replaying.{IsRecoverer, IsSwept}
@@ -111,6 +113,11 @@ step_of (comes.More doing) = called_step next.More
 step_of (comes.Answered answer) = called_step (next.Answered answer)
 step_of (comes.Uncalled answer) = record { placed = None; called = false; next = next.Answered answer }
 
+-- what is done next
+abbrev pub later_of : Come → Doing
+later_of (comes.More doing) = doing
+later_of come = doings.Ended
+
 -- what stands behind it, and what the notes agree with there
 abbrev pub StandsBehind : WorldView → ℕ → List (Option Look) → Doing → Come → Type 0
 StandsBehind w h watch doing (comes.More later) = PlanStands w h watch later × (command_of later ≡ command_of doing)
@@ -124,3 +131,5 @@ Behind h w watch come n = RestsWith h w watch n
 pub record Came (h : ℕ) (v w : WorldView) (watch after : List (Option Look)) (doing : Doing) (come : Come) : Type 0 where
   pub owes : OwesStep (command_of doing) h v w (step_of come) (Agrees h v watch doing) (Behind h w after come)
   pub stands : StandsBehind w h after doing come
+  pub tables : TablesStay h v w (command_of doing) (step_of come)
+  pub fewer : calls_left w h (later_of come) < calls_left v h doing

@@ -1,5 +1,5 @@
 -- What one step of the recovery of a slot does.
-use Rattle.std.specs.Prelude.{◌≡◌, ◌≢◌, ℕ, List, Option, Some}
+use Rattle.std.specs.Prelude.{◌≡◌, ◌≢◌, ◌<◌, ℕ, List, None, Option, Some}
 use Rattle.vol_base.specs.declared.block.Key.{Key}
 use Rattle.vol_layout.specs.declared.kind.Kind.TheVariants as kinds
 use Rattle.slot_lock_blocks.specs.declared.slot.Slot.TheVariants as slots
@@ -10,19 +10,24 @@ use Rattle.host_runs.specs.NotedCalls.{SwapsKind}
 use Rattle.vol_base.specs.declared.command.Command.{Command}
 use Rattle.shared_disk.specs.Events.{Event, Shows, event}
 use Rattle.slot_lock_blocks.specs.Slots.{slot_bytes}
+use Rattle.slot_lock_blocks.specs.declared.slot.Slot.{Slot}
+use Rattle.image_view.specs.Images.{block_at}
+use Rattle.disk_locks.specs.Sure.{BothTold, Sure}
 use Rattle.lock_store.specs.declared.answers.StepNo.{StepNo}
-use Rattle.lock_store.specs.Views.{host_at, key_at}
+use Rattle.lock_store.specs.Views.{host_at, key_at, told_of}
 use Rattle.watch.specs.declared.watch.Look.{Look}
 use Rattle.host_facts.specs.Views.{WorldView}
 use Rattle.host_notes.specs.Asked.{claim_call}
 use Rattle.plan_parts.specs.Cuts.{IsCutBy}
 use Rattle.plan_parts.specs.QuietCalls.{QuietCall}
 use Rattle.plan_parts.specs.Steps.{IsReady}
+use Rattle.recover_plan.specs.KnownTables.{KeepsTables}
 use Rattle.recover_plan.specs.RecoverNotes.{GoingNoted, Recovers, StageNoted}
 use Rattle.recover_plan.specs.Stages.{AreFewer, StandsBehind}
 use Rattle.recover_plan.specs.declared.replay.Going.{Going}
-use Rattle.recover_plan.specs.declared.replay.Going.TheVariants.{Found}
+use Rattle.recover_plan.specs.declared.replay.Going.TheVariants.{Found, More, Ready}
 use Rattle.recover_plan.specs.declared.replay.Replay.{Replay}
+use Rattle.recover_plan.specs.declared.replay.Replay.TheVariants.{Claim, Fence, FenceBy}
 
 -- a claim that found another slot is the call that shows it
 abbrev pub IsShownBy : ℕ → ℕ → WorldView → Event → Going → Type 0
@@ -34,9 +39,34 @@ abbrev pub IsTaken : Going → Type 0
 IsTaken (Found from found) = ⊥
 IsTaken going = Unit {0}
 
+-- where the device tells its content, this slot stands there
+abbrev pub IsThere : WorldView → ℕ → ℕ → Slot → Type 0
+IsThere v h of slot = Sure v.locks h (λ image. block_at v.locks.geometry image (kinds.Slot of) ≡ slot_bytes slot)
+
+-- the slots of all hosts but one are as before
+abbrev pub SlotsStay : WorldView → WorldView → ℕ → Type 0
+SlotsStay v w of =
+    BothTold (told_of v.locks) (told_of w.locks)
+    (λ i j. (y : ℕ) → y < v.locks.geometry.hosts → y ≢ of
+    → block_at v.locks.geometry j (kinds.Slot y) ≡ block_at v.locks.geometry i (kinds.Slot y))
+
+-- the slot from which the claim is to be made stands there
+abbrev pub SeesSlot : WorldView → ℕ → ℕ → Replay → Type 0
+SeesSlot v h of (Fence slot) = IsThere v h of slot
+SeesSlot v h of (FenceBy slot) = IsThere v h of slot
+SeesSlot v h of (Claim slot) = IsThere v h of slot
+SeesSlot v h of stage = Unit {0}
+
+-- behind a step, too; and then a claim finds another slot only where the device tells nothing
+abbrev pub SeesBehind : WorldView → ℕ → ℕ → Going → Type 0
+SeesBehind w h of (More stage) = SeesSlot w h of stage
+SeesBehind w h of (Found from found) = IsThere w h of found × (told_of w.locks ≡ None)
+SeesBehind w h of (Ready dead) = Unit {0}
+
 -- one call was made: quiet in each command that recovers the slot; it shows no block where the slot is not claimed, but where the claim
--- found another one; and it makes no slot live. What comes next stands, with fewer steps left. The host keeps its key, knows still which
--- keys the device gave, and if it was ready for its next command, is ready still
+-- found another one; it makes no slot live, and leaves the slots of other hosts. What comes next stands, with fewer steps left. The host
+-- keeps its key, knows still which keys the device gave and what its tables are, and sees the slot still that it is to claim; and if it
+-- was ready for its next command, it is ready still
 pub record Went (h of : ℕ) (v w : WorldView) (stage : Replay) (going : Going) : Type 0 where
   pub event : Event
   pub shown : IsShownBy h of v event going
@@ -47,6 +77,9 @@ pub record Went (h of : ℕ) (v w : WorldView) (stage : Replay) (going : Going) 
   pub fewer : AreFewer v.locks.geometry stage going
   pub key : key_at w.locks h ≡ key_at v.locks h
   pub given : (key : ℕ) → Knows v h (Given key) → Knows w h (Given key)
+  pub tables : KeepsTables h v w
+  pub slots : SlotsStay v w of
+  pub sees : SeesSlot v h of stage → SeesBehind w h of going
   pub ready : IsReady v h → IsReady w h
   pub quiet : (command : Command) (watch : List (Option Look)) (k : ℕ) → Recovers command h of
       → QuietCall command h v w event (StageNoted command h of watch k v stage) (GoingNoted command h of watch k w going)

@@ -203,7 +203,7 @@ pub(crate) fn key<D: Device>(world: &MetaWorld<D>, host: HostNo) -> Key
 }
 
 // Asks for a key.
-fn ask_key<D: Device>(world: &mut MetaWorld<D>, host: HostNo) -> Result<Key, DiskNo>
+pub(crate) fn ask_key<D: Device>(world: &mut MetaWorld<D>, host: HostNo) -> Result<Key, DiskNo>
     requires host { host < world.old.locks.geometry.hosts }
     requires none { key_at world.old.locks host ≡ 0 }
     ensures did { RegistersHost world.old.locks host result world.new.locks }
@@ -218,7 +218,11 @@ fn ask_key<D: Device>(world: &mut MetaWorld<D>, host: HostNo) -> Result<Key, Dis
 }
 
 // Sets the own slot live.
-fn set_live<D: Device>(world: &mut MetaWorld<D>, host: HostNo, from: &Slot) -> Result<Claim, StepNo>
+pub(crate) fn set_live<D: Device>(
+    world: &mut MetaWorld<D>,
+    host: HostNo,
+    from: &Slot,
+) -> Result<Claim, StepNo>
     requires host { host < world.old.locks.geometry.hosts }
     requires key { key_at world.old.locks host ≢ 0 }
     requires out { (host_at world.old.locks host).joined ≡ false }

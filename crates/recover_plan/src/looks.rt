@@ -8,6 +8,7 @@ ghost use Rattle.lock_store.specs.SlotTries.{ReadsSlot};
 ghost use Rattle.lock_store.specs.Views.{host_at, key_at};
 ghost use Rattle.plan_parts.specs.Cuts.{IsCut, IsCutBy};
 ghost use Rattle.plan_parts.specs.Steps.{IsReady};
+ghost use Rattle.recover_plan.specs.KnownTables.{KeepsTables};
 ghost use Rattle.recover_plan.specs.PlanSteps.{AreWatched, OpenNoted, OwesAnswer, RestsWith};
 ghost use Rattle.recover_plan.specs.Plans.{Agrees, Came, PlanStands};
 ghost use Rattle.recover_plan.specs.SlotTurns.{look_answer};
@@ -63,6 +64,7 @@ fn beat<D: Device>(world: &mut MetaWorld<D>, host: HostNo) -> Result<(), StepNo>
     requires ready { IsReady world.old host }
     ensures owes { IfOk result (λ u. (watch : List (Option Look)) → OwesAnswer Command.Beat host world.old world.new Answer.Fine (OpenNoted Command.Beat host world.old watch) (RestsWith host world.new watch)) }
     ensures watched { IfOk result (λ u. (watch : List (Option Look)) → AreWatched world.old host watch → AreWatched world.new host watch) }
+    ensures tables { IfOk result (λ u. KeepsTables host world.old world.new) }
     ensures cut { IfErr result (λ why. IsCutBy Command.Beat host world.old world.new why (λ n. Unit {0})) }
     ensures others { Others host world.old world.new }
 {
@@ -86,6 +88,7 @@ fn look<D: Device>(
     requires watched { AreWatched world.old host watch.old }
     ensures owes { IfOk result (λ answer. OwesAnswer (Command.Look of) host world.old world.new answer (OpenNoted (Command.Look of) host world.old watch.old) (RestsWith host world.new watch.new)) }
     ensures watched { IfOk result (λ answer. AreWatched world.new host watch.new) }
+    ensures tables { IfOk result (λ answer. KeepsTables host world.old world.new) }
     ensures cut { IfErr result (IsCut host world.old world.new) }
     ensures others { Others host world.old world.new }
 {
@@ -121,7 +124,11 @@ fn show_beat<D: Device>(world: &mut MetaWorld<D>, host: HostNo) -> Result<(), St
 }
 
 // Reads a slot.
-fn read<D: Device>(world: &mut MetaWorld<D>, host: HostNo, of: HostNo) -> Result<Slot, StepNo>
+pub(crate) fn read<D: Device>(
+    world: &mut MetaWorld<D>,
+    host: HostNo,
+    of: HostNo,
+) -> Result<Slot, StepNo>
     requires host { host < world.old.locks.geometry.hosts }
     requires of { of < world.old.locks.geometry.hosts }
     requires key { key_at world.old.locks host ≢ 0 }

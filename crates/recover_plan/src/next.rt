@@ -1,9 +1,9 @@
 // The steps of a plan, one device call each.
 ghost use Rattle.std.specs.Prelude.{◌≡◌, IfErr, IfOk};
 ghost use Rattle.host_facts.specs.Others.{Others};
-ghost use Rattle.plan_parts.specs.Cuts.{IsCutBy};
-ghost use Rattle.recover_plan.specs.Nexts.{HasStepped, IsOfPlan, IsUntouched, MayStop, first_of, later_of};
-ghost use Rattle.recover_plan.specs.Plans.{Agrees, Came, PlanStands, command_of, step_of};
+ghost use Rattle.plan_parts.specs.Cuts.{IsCutBy, IsUntouched};
+ghost use Rattle.recover_plan.specs.Nexts.{HasStepped, IsOfPlan, MayStop, first_of};
+ghost use Rattle.recover_plan.specs.Plans.{Agrees, Came, PlanStands, command_of, later_of, step_of};
 ghost use Rattle.watch.specs.Looks.{nothing};
 
 use crate::join::{enter, over, register, retake};

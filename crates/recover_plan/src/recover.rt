@@ -1,21 +1,22 @@
 // The recovery of another host.
-ghost use Rattle.std.specs.Prelude.{◌≡◌, ◌≢◌, ◌≤◌, ◌<◌, ◌↔◌, ℕ, None, IfErr, IfOk, IsTrue};
+ghost use Rattle.std.specs.Prelude.{◌≡◌, ◌≢◌, ◌+◌, ◌≤◌, ◌<◌, ◌↔◌, ℕ, None, IfErr, IfOk, IsTrue};
 ghost use Rattle.disk_locks.specs.Calls.{FreesSlot, IsFreed, IsSound};
 ghost use Rattle.disk_locks.specs.Consistent.{Consistent};
 ghost use Rattle.disk_locks.specs.Freeing.{IsUnneeded, MayFreeSlot};
 ghost use Rattle.disk_locks.specs.Others as locks';
 ghost use Rattle.disk_locks.specs.Sure.{Sure};
+ghost use Rattle.host_facts.specs.Facts.{locks_of};
 ghost use Rattle.host_facts.specs.Others.{Others};
 ghost use Rattle.lock_store.specs.Views.{host_at, key_at};
 ghost use Rattle.host_runs.specs.Notes.{Notes};
 ghost use Rattle.plan_parts.specs.Cuts.{IsCutBy};
 ghost use Rattle.watch.specs.Looks.{IsLook, count_of, look_at};
-ghost use Rattle.slot_lock_blocks.specs.Slots.{slot_key};
 ghost use Rattle.recover_plan.specs.Plans.{Agrees, Came, PlanStands};
+ghost use Rattle.recover_plan.specs.Stages.{steps_left};
 ghost use Rattle.recover_plan.specs.Recoveries.{FoundTo, IsSameLive, RecoverTo, found_answer, recovery};
 
 use crate::plan::{Come, Doing};
-use crate::replay::{Going, Replay, step};
+use crate::replay::{Going, Replay, shown, step};
 use lock_store::StepNo;
 use meta_world::MetaWorld;
 use shared_disk::Device;
@@ -82,6 +83,7 @@ fn begin_with<D: Device>(
 ) -> Result<Come, StepNo>
     requires stands { PlanStands world.old host watch.old (Doing.First of stage) }
     requires agrees { (n : Notes) → Agrees host world.old watch.old (Doing.Begin of) n → Agrees host world.old watch.old (Doing.First of stage) n }
+    requires most { steps_left world.old.locks.geometry stage ≤ locks_of world.old.locks.geometry + 21 }
     ensures came { IfOk result (Came host world.old world.new watch.old watch.new (Doing.Begin of)) }
     ensures cut { IfErr result (λ why. IsCutBy (Command.Recover of) host world.old world.new why (Agrees host world.old watch.old (Doing.Begin of))) }
     ensures others { Others host world.old world.new }
@@ -188,22 +190,12 @@ fn remembered(watch: &mut Watch, of: HostNo, found: &Slot) -> Come
 }
 
 // Whether the slot is live with the key that the claim was made from.
-fn is_same_live(from: &Slot, found: &Slot) -> bool
+pub(crate) fn is_same_live(from: &Slot, found: &Slot) -> bool
     ensures { IsTrue result ↔ IsSameLive from.now found.now }
 {
     match *found {
-        Slot::Live { key, .. } => shown(from) == key.0,
+        Slot::Live { key, .. } => shown(from).0 == key.0,
         Slot::Free | Slot::Recovering { .. } => false,
-    }
-}
-
-// The key that a slot shows, 0 for none.
-fn shown(slot: &Slot) -> u64
-    ensures { result ≡ slot_key slot.now }
-{
-    match *slot {
-        Slot::Free => 0,
-        Slot::Live { key, .. } | Slot::Recovering { key, .. } => key.0,
     }
 }
 

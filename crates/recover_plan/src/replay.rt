@@ -139,7 +139,7 @@ fn behind_fence(slot: Slot) -> Replay
 }
 
 // The key that a slot shows, and its `by`; 0 for none.
-fn shown(slot: &Slot) -> Key
+pub(crate) fn shown(slot: &Slot) -> Key
     ensures { result.0 ≡ slot_key slot.now }
 {
     match *slot {

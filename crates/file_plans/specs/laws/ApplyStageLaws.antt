@@ -42,7 +42,7 @@ use Rattle.file_plans.specs.declared.stage.Stage.TheVariants as stages
 use Rattle.file_plans.specs.laws.RestLaws.{went_on, went_rest}
 use Rattle.file_plans.specs.laws.NeedLaws.{table_or_other}
 use Rattle.file_plans.specs.laws.SeeLaws.{noted_still}
-use Rattle.file_plans.specs.laws.WriteBaseLaws.{IsStill, base_key, base_still, coming, hold_on}
+use Rattle.file_plans.specs.laws.BaseLaws.{IsStill, base_key, base_still, coming, hold_on}
 use Rattle.file_plans.specs.laws.WriteEndLaws.{goes, placed_at}
 
 -- what is kept is known still once a table was written: of a file it is kept as it was written, and every other one stays

@@ -151,7 +151,7 @@ outside_forgets v c d core is forgets = record {
 }
 
 -- a call that neither reads nor wants its file alone closes it
-closes : (call : FileCall) → is_read call ≡ false → wants_write call ≡ false → call ≡ Close (file_of call)
+pub closes : (call : FileCall) → is_read call ≡ false → wants_write call ≡ false → call ≡ Close (file_of call)
 closes (Close f) read wants = refl
 closes (Plain (calls.Read f i)) read wants = absurd cc
 closes (Plain (calls.Create f)) read wants = absurd cc

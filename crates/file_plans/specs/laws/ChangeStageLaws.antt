@@ -27,7 +27,8 @@ use Rattle.file_plans.specs.declared.stage.Stage.{Stage}
 use Rattle.file_plans.specs.declared.stage.Stage.TheVariants as stages
 use Rattle.file_plans.specs.laws.ApplyStageLaws.{base_relocked, goes_at}
 use Rattle.file_plans.specs.laws.ChangeSightLaws.{change_no_write, may_open, runs_no_write}
-use Rattle.file_plans.specs.laws.WriteBaseLaws.{base_still, coming, sight_on, still_looks}
+use Rattle.file_plans.specs.laws.BaseLaws.{base_still, coming, still_looks}
+use Rattle.file_plans.specs.laws.WriteBaseLaws.{sight_on}
 use Rattle.file_plans.specs.laws.WriteEndLaws.{goes, goes_to, record_put, went_as}
 
 -- the group was locked

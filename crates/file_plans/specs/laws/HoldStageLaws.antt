@@ -1,4 +1,5 @@
 -- Steps towards the hold of a file, and the one that gives a read hold back.
+use Rattle.file_plans.specs.laws.WriteEndLaws.{went_as}
 use Rattle.host_facts.specs.Relocks.{Relocks}
 use Rattle.std.proofs.Common.{Bool, ◌||◌}
 use Rattle.lock_store.specs.declared.host.HostState.{HostState}
@@ -47,7 +48,8 @@ use Rattle.file_plans.specs.declared.state.Core.{Core}
 use Rattle.file_plans.specs.declared.stage.Stage.{Stage}
 use Rattle.file_plans.specs.declared.stage.Stage.TheVariants as stages
 use Rattle.file_plans.specs.laws.RestLaws.{went_answered, went_on}
-use Rattle.file_plans.specs.laws.SeeLaws.{cached_on, joined_has_key, noted_still}
+use Rattle.file_plans.specs.laws.BaseLaws.{cached_on}
+use Rattle.file_plans.specs.laws.SeeLaws.{joined_has_key, noted_still}
 
 -- what a command tries the lock of its file for
 pub writes_file : (command : Command) (call : FileCall) → Runs command call → wants_write call ≡ true → WritesFile (file_of call) command
@@ -172,13 +174,12 @@ read_hold : (call : FileCall) (m : HostState) → is_read call ≡ true → may_
 read_hold (Plain (calls.Read f i)) m is may = may
 read_hold call m is may = absurd cc
 
--- a step that is said by equations
-went_as : (v w : WorldView) (c : Cache) (core new is_new : Core) (from to is_to : Stage) (step is_step : Step) → new ≡ is_new → step ≡ is_step
-    → to ≡ is_to → Went v w c core is_new from is_step is_to → Went v w c core new from step to
-went_as v w c core new is_new from to is_to step is_step same made goes went =
+-- so is the core
+went_core : (v w : WorldView) (c : Cache) (core new is_new : Core) (from to is_to : Stage) (step is_step : Step) → new ≡ is_new
+    → step ≡ is_step → to ≡ is_to → Went v w c core is_new from is_step is_to → Went v w c core new from step to
+went_core v w c core new is_new from to is_to step is_step same made goes went =
     subst (λ (n : Core). Went v w c core n from step to) (sym same)
-    (subst (λ (s : Step). Went v w c core is_new from s to) (sym made)
-    (subst (λ (t : Stage). Went v w c core is_new from is_step t) (sym goes) went))
+    (went_as v w c core is_new from step is_step to is_to made goes went)
 
 module _ (v w : WorldView) (c : Cache) (core new : Core) (step : Step) (stage : Stage) (before : Consistent v.locks)
     (after : Consistent w.locks) where
@@ -187,7 +188,7 @@ module _ (v w : WorldView) (c : Cache) (core new : Core) (step : Step) (stage : 
       → TakesWrite core.host (file_of core.call) v w t taken → IsHeldBehind core new taken step stage
       → Went v w c core new (stages.Writes t) step stage
   writes_went t (taking.More u) is (less, more) (same, made, goes) =
-      went_as v w c core new core (stages.Writes t) stage (stages.Writes u) step (step_of nexts.More) same made goes
+      went_core v w c core new core (stages.Writes t) stage (stages.Writes u) step (step_of nexts.More) same made goes
       (hold_goes v w c core (stages.Writes t) is.0 before after (WritesFile (file_of core.call))
       (λ command runs. writes_file command core.call runs is.2) (λ command n. NotedWrite command core.host w u n)
       (λ command n at. at.1.noted) more.asked (stages.Writes u) (outside_looks v w c core more.looks is.0).cached
@@ -195,7 +196,7 @@ module _ (v w : WorldView) (c : Cache) (core new : Core) (step : Step) (stage : 
       (λ command n at. (at.0, tries_still command core.host w _ n at.1)))
   writes_went t taking.Taken is did (same, made, goes) =
       let open_base = held_base v w c core before is.0 did.gains (write_hold core.call (host_at w.locks core.host) is.2 did.held) in
-      went_as v w c core new core (stages.Writes t) stage stages.Sees step (step_of nexts.More) same made goes
+      went_core v w c core new core (stages.Writes t) stage stages.Sees step (step_of nexts.More) same made goes
       (hold_goes v w c core (stages.Writes t) is.0 before after (WritesFile (file_of core.call))
       (λ command runs. writes_file command core.call runs is.2) (λ command n. Noted command core.host w outcomes.Open n)
       (λ command n at. at.1.noted) did.asked stages.Sees open_base.base.cached (open_base, is.0.none) (λ command n noted. noted.asks)
@@ -203,7 +204,7 @@ module _ (v w : WorldView) (c : Cache) (core new : Core) (step : Step) (stage : 
       (noted_still command core.host w outcomes.Open n noted)))
   writes_went t (taking.Busy key) is busy (same, made, goes) =
       let there = outside_looks v w c core busy.looks is.0 in
-      went_as v w c core new _ (stages.Writes t) stage stages.Over step _ same made goes
+      went_core v w c core new _ (stages.Writes t) stage stages.Over step _ same made goes
       (hold_busy v w c core (stages.Writes t) is.0 before after (WritesFile (file_of core.call))
       (λ command runs. writes_file command core.call runs is.2) (λ command n. Noted command core.host w (outcomes.Busy key) n)
       (λ command n at. at.1.noted) busy.asked key there.cached there.ready (λ command n noted. noted))
@@ -213,7 +214,7 @@ module _ (v w : WorldView) (c : Cache) (core new : Core) (step : Step) (stage : 
       → TakesRead core.host (file_of core.call) v w t taken → IsReadBehind core new taken step stage
       → Went v w c core new (stages.Reads t) step stage
   reads_went t (taking.More u) is (less, more) (same, made, goes) =
-      went_as v w c core new core (stages.Reads t) stage (stages.Reads u) step (step_of nexts.More) same made goes
+      went_core v w c core new core (stages.Reads t) stage (stages.Reads u) step (step_of nexts.More) same made goes
       (hold_goes v w c core (stages.Reads t) is.0 before after (ReadsFile (file_of core.call))
       (λ command runs. reads_file command core.call runs is.2) (λ command n. NotedTry command core.host w u n)
       (λ command n at. at.noted) more.asked (stages.Reads u) (outside_looks v w c core more.looks is.0).cached
@@ -222,7 +223,7 @@ module _ (v w : WorldView) (c : Cache) (core new : Core) (step : Step) (stage : 
   reads_went t taking.Taken is did (same, made, goes) =
       let may = ap (λ (b : Bool). holds (host_at w.locks core.host) (File (file_of core.call)) || b) did.reads_it ∙ or_true _ in
       let open_base = held_base v w c core before is.0 did.gains (read_hold core.call (host_at w.locks core.host) is.2 may) in
-      went_as v w c core new core (stages.Reads t) stage stages.Sees step (step_of nexts.More) same made goes
+      went_core v w c core new core (stages.Reads t) stage stages.Sees step (step_of nexts.More) same made goes
       (hold_goes v w c core (stages.Reads t) is.0 before after (ReadsFile (file_of core.call))
       (λ command runs. reads_file command core.call runs is.2) (λ command n. Noted command core.host w outcomes.Open n)
       (λ command n at. at.noted) did.asked stages.Sees open_base.base.cached (open_base, is.0.none) (λ command n noted. noted.asks)
@@ -234,7 +235,7 @@ module _ (v w : WorldView) (c : Cache) (core new : Core) (step : Step) (stage : 
       or_true false = refl
   reads_went t (taking.Busy key) is busy (same, made, goes) =
       let there = outside_looks v w c core busy.looks is.0 in
-      went_as v w c core new _ (stages.Reads t) stage stages.Over step _ same made goes
+      went_core v w c core new _ (stages.Reads t) stage stages.Over step _ same made goes
       (hold_busy v w c core (stages.Reads t) is.0 before after (ReadsFile (file_of core.call))
       (λ command runs. reads_file command core.call runs is.2) (λ command n. Noted command core.host w (outcomes.Busy key) n)
       (λ command n at. at.noted) busy.asked key there.cached there.ready (λ command n noted. noted))

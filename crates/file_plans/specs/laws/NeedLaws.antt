@@ -55,7 +55,7 @@ use Rattle.vol_layout.specs.declared.kind.Kind.TheVariants as kinds
 use Rattle.file_plans.specs.laws.SeeLaws.{base_looks, joined_has_key, noted_still, placed_went, settled_call}
 
 -- a table of a file is one of the volume, and no group's
-file_table_has : (g : Geometry) (t : Table) → IsFileTable g t → HasTable g t
+pub file_table_has : (g : Geometry) (t : Table) → IsFileTable g t → HasTable g t
 file_table_has g (tables.File f) is = is
 file_table_has g (tables.More f u) is = is
 file_table_has g (tables.Group r) is = absurd is

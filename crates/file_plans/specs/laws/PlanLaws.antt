@@ -3,8 +3,10 @@ use Rattle.std.proofs.Common.{◌≡◌, ◌≢◌, ◌<◌, ℕ, true, None, So
 use Rattle.std.specs.Prelude.{Err, IfErr, IfOk, Ok, Result}
 use Rattle.disk_locks.specs.Consistent.{Consistent}
 use Rattle.file_plans.specs.Bases.{IsBase, IsCached}
-use Rattle.file_plans.specs.Calls.{Runs, block_of, is_write}
-use Rattle.file_plans.specs.Plans.{HasStepped, IsRefused, IsUntouched}
+use Rattle.file_plans.specs.Calls.{Runs, block_of, file_of, is_write}
+use Rattle.plan_parts.specs.Cuts.{IsUntouched}
+use Rattle.plan_parts.specs.laws.CutCallLaws.{cut_untouched}
+use Rattle.file_plans.specs.Plans.{HasStepped, IsRefused}
 use Rattle.file_plans.specs.Stands.{At, IsOutside, NotedAt}
 use Rattle.file_plans.specs.Went.{IsCutAt, LeavesOthers, NotedBehind, StandsBehind, Went}
 use Rattle.file_plans.specs.declared.call.FileCall.{FileCall}
@@ -44,8 +46,9 @@ use Rattle.host_runs.specs.lemmas.OrderlyPlaced.{some_same}
 use Rattle.held_cache.specs.Kept.{ForgetsHost}
 
 -- what stands at each stage of the host and of what is kept for it
-record StandsAt (v : WorldView) (c : Cache) (core : Core) (stage : Stage) : Type 0 where
+pub record StandsAt (v : WorldView) (c : Cache) (core : Core) (stage : Stage) : Type 0 where
   pub host : core.host < v.locks.geometry.hosts
+  pub file : file_of core.call < v.locks.geometry.files
   pub joined : (host_at v.locks core.host).joined ≡ true
   pub cached : IsCached v c core.host
   pub noted : (command : Command) (n : Notes) → stage ≢ stages.Asks → NotedAt command v core stage n → Noted command core.host v core.outcome n
@@ -54,6 +57,7 @@ from_base : (v : WorldView) (c : Cache) (core : Core) (stage : Stage) → IsBase
     → ((command : Command) (n : Notes) → NotedAt command v core stage n → Noted command core.host v core.outcome n) → StandsAt v c core stage
 from_base v c core stage base noted = record {
   host = base.host;
+  file = base.file;
   joined = base.joined;
   cached = base.cached;
   noted = λ command n apart at. noted command n at;
@@ -64,12 +68,13 @@ from_outside : (v : WorldView) (c : Cache) (core : Core) (stage : Stage) → IsO
     → StandsAt v c core stage
 from_outside v c core stage is noted = record {
   host = is.host;
+  file = is.file;
   joined = is.ready.joined;
   cached = is.cached;
   noted = λ command n apart at. subst (λ (o : Outcome). Noted command core.host v o n) (sym is.comes) (noted command n apart at);
 }
 
-stands_at : (v : WorldView) (c : Cache) (core : Core) (stage : Stage) → At v c core stage → StandsAt v c core stage
+pub stands_at : (v : WorldView) (c : Cache) (core : Core) (stage : Stage) → At v c core stage → StandsAt v c core stage
 stands_at v c core stages.Asks at = from_outside v c core stages.Asks at.0 (λ command n apart noted. absurd (apart refl))
 stands_at v c core stages.Begins at = from_outside v c core stages.Begins at (λ command n apart noted. noted.noted)
 stands_at v c core (stages.Writes t) at = from_outside v c core (stages.Writes t) at.0 (λ command n apart noted. noted.1.noted)
@@ -154,10 +159,10 @@ cut_steps v w c e d old new before why by step at consistent refused is leaves f
     })
 
 -- or nothing was done
-pub cut_untouched : (v w : WorldView) (core : Core) (before : Stage) → IsRefused v w core before steps.NoMemory
-    → (command : Command) → Runs command core.call → IsUntouched v w core.host
-cut_untouched v w core before refused command runs =
-    let cut = ((refused_cut v w core before steps.NoMemory refused).1 command runs).1 in record { state = cut.state; geometry = cut.geometry; memory = cut.same refl }
+pub untouched : (v w : WorldView) (core : Core) (before : Stage) → IsRefused v w core before steps.NoMemory
+    → (command : Command) → Runs command core.call → IsUntouched core.host v w
+untouched v w core before refused command runs =
+    cut_untouched command core.host v w (NotedAt command v core before) ((refused_cut v w core before steps.NoMemory refused).1 command runs)
 
 -- a write asks for the digest of its block
 pub asks_wants : (v : WorldView) (core : Core) → is_write core.call ≡ true → (command : Command) (n : Notes) → Runs command core.call

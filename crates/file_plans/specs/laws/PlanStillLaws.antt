@@ -33,7 +33,7 @@ use Rattle.file_plans.specs.declared.stage.Stage.TheVariants as stages
 use Rattle.plan_parts.specs.declared.outcome.Outcome.TheVariants as outcomes
 
 -- a ready host stays so
-ready_still : (v w : WorldView) (h x : ℕ) → Consistent v.locks → Others x v w → h ≢ x → IsReady v h → IsReady w h
+pub ready_still : (v w : WorldView) (h x : ℕ) → Consistent v.locks → Others x v w → h ≢ x → IsReady v h → IsReady w h
 ready_still v w h x consistent others apart ready =
     let some = joined_key v.locks.geometry.hosts _ h (host_at v.locks h) (consistent.memories h) ready.joined in record {
       joined = ap (λ (m : HostState). m.joined) (others.locks.keeps h apart some).memory ∙ ready.joined;
@@ -41,7 +41,7 @@ ready_still v w h x consistent others apart ready =
       taking = taking_still v w h x [] others apart some ready.taking;
     }
 
-remembered_over : (v w : WorldView) (h : ℕ) (n : Notes) → w.locks.geometry ≡ v.locks.geometry → host_at w.locks h ≡ host_at v.locks h
+pub remembered_over : (v w : WorldView) (h : ℕ) (n : Notes) → w.locks.geometry ≡ v.locks.geometry → host_at w.locks h ≡ host_at v.locks h
     → IsRemembered v.locks.geometry n.memory (host_at v.locks h) → IsRemembered w.locks.geometry n.memory (host_at w.locks h)
 remembered_over v w h n geometry memory is =
     subst (λ (m : HostState). IsRemembered w.locks.geometry n.memory m) (sym memory)

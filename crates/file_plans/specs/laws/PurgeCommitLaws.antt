@@ -58,15 +58,15 @@ use Rattle.file_plans.specs.laws.RemainLaws.{OfTable, ascending_apart, named_is,
 use Rattle.file_plans.specs.laws.SaysLaws.{pointer_table}
 
 -- the remains of a call, by the head of its file
-record IsPurge (g : Geometry) (known : Known) (f : ℕ) (rs : List Remain) : Type 0 where
-  from : ℕ
-  to : ℕ
-  head : ℕ
-  says : Says known (Head f) head
-  past : head ≤ from + 1
-  remains : AreRemains g known f from to rs
+pub record IsPurge (g : Geometry) (known : Known) (f : ℕ) (rs : List Remain) : Type 0 where
+  pub from : ℕ
+  pub to : ℕ
+  pub head : ℕ
+  pub says : Says known (Head f) head
+  pub past : head ≤ from + 1
+  pub remains : AreRemains g known f from to rs
 
-purge_of : (g : Geometry) (known : Known) (call : FileCall) (rs : List Remain) → IsSight g known call (Purges rs)
+pub purge_of : (g : Geometry) (known : Known) (call : FileCall) (rs : List Remain) → IsSight g known call (Purges rs)
     → IsPurge g known (file_of call) rs
 purge_of g known (Plain (Size f k)) rs sight = record {
   from = sight.0;

@@ -1,15 +1,10 @@
--- The end of a round is nearer behind each of its steps.
-use Rattle.std.proofs.Common.{◌≡◌, ◌<◌, ◌≤◌, ◌+◌, ◌*◌, ◌||◌, ℕ, Bool, true, false, List, [], ◌∷◌, ap, sym, subst, arith, eqb, length, inl, inr}
+-- No more locks are taken at any stage than the volume has groups and parts.
+use Rattle.std.proofs.Common.{◌≡◌, ◌<◌, ◌≤◌, ◌+◌, ◌||◌, ℕ, Bool, true, false, List, [], ◌∷◌, ap, sym, subst, arith, eqb, length, inl, inr}
 use Rattle.std.specs.Prelude.{map}
 use Rattle.std.specs.List.{AllByRecursion, IsDistinct, list_any}
-use Rattle.std.proofs.Math.Nat.{mul_comm}
-use Rattle.std.proofs.lemmas.Nat.{mul-add-lt}
 use Rattle.std.proofs.lemmas.Bool.{cases_Bool, eqb-true, false_from_ne_true}
 use Rattle.std.proofs.lemmas.List.{length-map}
 use Rattle.std.proofs.lemmas.Map.Steps.{length-le_from_distinct_below}
-use Rattle.vol_base.specs.declared.answer.Next.{Next}
-use Rattle.vol_base.specs.declared.answer.Next.TheVariants.{More}
-use Rattle.vol_base.specs.declared.answer.Step.{Step}
 use Rattle.vol_layout.specs.declared.geometry.Geometry.{Geometry}
 use Rattle.vol_layout.specs.declared.kind.Resource.{Resource}
 use Rattle.vol_layout.specs.declared.kind.Resource.TheVariants.{File, Group, Part}
@@ -17,14 +12,9 @@ use Rattle.vol_layout.specs.Ranges.{HasResource}
 use Rattle.disk_locks.specs.Calls.{IsShared}
 use Rattle.held_cache.specs.Kept.{Cache}
 use Rattle.host_facts.specs.Views.{WorldView}
-use Rattle.plan_parts.specs.TakenLocks.{AreHeld, Frees, IsTaken}
-use Rattle.plan_parts.specs.declared.outcome.Outcome.{Outcome}
-use Rattle.plan_parts.specs.declared.outcome.Outcome.TheVariants as outcomes
-use Rattle.plan_parts.specs.laws.TakenLaws.{one_lock_less}
+use Rattle.plan_parts.specs.TakenLocks.{AreHeld, IsTaken}
 use Rattle.file_plans.specs.Bases.{IsBase}
 use Rattle.file_plans.specs.Stands.{At}
-use Rattle.file_plans.specs.Went.{IsRest, StandsBehind, Went}
-use Rattle.file_plans.specs.Writes.{IsNearer, LeavesFewer, steps_left}
 use Rattle.file_plans.specs.declared.state.Core.{Core}
 use Rattle.file_plans.specs.declared.stage.Stage.{Stage}
 use Rattle.file_plans.specs.declared.stage.Stage.TheVariants as stages
@@ -84,14 +74,6 @@ module _ (v : WorldView) (h : ℕ) where
       (are_distinct taken are) (are_below taken are) in
       let same = length-map taken (number_of v.locks.geometry) in omega (arith, few, same)
 
--- where fewer steps are left, the end is nearer, whatever locks were taken
-fewer_nearer : (g : Geometry) (old : Core) (before : Stage) (new : Core) (next : Next) (after : Stage)
-    → length new.taken ≤ g.groups + g.parts → LeavesFewer g before next after → IsNearer g old before new next after
-fewer_nearer g old before new next after few less more =
-    let room : length new.taken < g.groups + g.parts + 1 = omega (arith, few) in
-    let nearer = mul-add-lt (steps_left g after) (g.groups + g.parts + 1) (length new.taken) (steps_left g before) (less more) room in
-    let turned = mul_comm (g.groups + g.parts + 1) (steps_left g before) in omega (arith, nearer, turned)
-
 -- so it is at every stage
 no_lock : (w : WorldView) (core : Core) → core.taken ≡ [] → length core.taken ≤ w.locks.geometry.groups + w.locks.geometry.parts
 no_lock w core none = let few = ap length none in omega (arith, few)
@@ -100,7 +82,7 @@ base_few : (w : WorldView) (d : Cache) (core : Core) → IsBase w d core
     → length core.taken ≤ w.locks.geometry.groups + w.locks.geometry.parts
 base_few w d core base = locks_few w core.host core.taken base.taking.each
 
-taken_few : (w : WorldView) (d : Cache) (core : Core) (stage : Stage) → At w d core stage
+pub taken_few : (w : WorldView) (d : Cache) (core : Core) (stage : Stage) → At w d core stage
     → length core.taken ≤ w.locks.geometry.groups + w.locks.geometry.parts
 taken_few w d core stages.Asks at = no_lock w core at.0.none
 taken_few w d core stages.Begins at = no_lock w core at.none
@@ -119,31 +101,3 @@ taken_few w d core (stages.Changes change group) at = base_few w d core at.0.bas
 taken_few w d core (stages.Applies a) at = base_few w d core at.0
 taken_few w d core stages.Frees at = base_few w d core at.0
 taken_few w d core stages.Over at = absurd at
-
--- a step behind which fewer are left brings the end of the round nearer
-pub step_nearer : (v w : WorldView) (d : Cache) (old new : Core) (before : Stage) (step : Step) (after : Stage)
-    → w.locks.geometry ≡ v.locks.geometry → Went v w d old new before step after → LeavesFewer v.locks.geometry before step.next after
-    → IsNearer v.locks.geometry old before new step.next after
-step_nearer v w d old new before step after same went less more =
-    fewer_nearer v.locks.geometry old before new step.next after
-    (subst (λ (g : Geometry). length new.taken ≤ g.groups + g.parts) same
-    (taken_few w d new after (subst (λ (n : Next). StandsBehind w d new n after) more went.stands))) less more
-
--- no step is left but the freeing where no record stands
-rest_none : (g : Geometry) (taken : List Resource) (outcome : Outcome) (next : Next) (stage : Stage) → IsRest taken outcome next stage
-    → next ≡ More → steps_left g stage ≡ 0
-rest_none g (r ∷ taken) outcome next stage rest more = ap (steps_left g) rest.1
-rest_none g [] outcomes.Open next stage rest more = ap (steps_left g) rest.1
-rest_none g [] (outcomes.Placed reply) next stage rest more = ap (steps_left g) rest.1
-rest_none g [] (outcomes.Busy key) next stage rest more = ap (steps_left g) rest.1
-rest_none g [] outcomes.Full next stage rest more = ap (steps_left g) rest.1
-
--- a lock was freed
-pub freed_nearer : (h : ℕ) (v w : WorldView) (g : Geometry) (old new : Core) (outcome : Outcome) (freed : Bool) (next : Next)
-    (stage : Stage) → (old.taken ≡ [] → ⊥) → Frees h v w old.taken new.taken freed → IsRest new.taken outcome next stage
-    → IsNearer g old stages.Frees new next stage
-freed_nearer h v w g old new outcome true next stage some freed rest more =
-    let less = one_lock_less h v w old.taken new.taken freed in
-    let none = rest_none g new.taken outcome next stage rest more in
-    let weighs = ap (λ (n : ℕ). n * (g.groups + g.parts + 1)) none in omega (arith, less, weighs)
-freed_nearer h v w g old new outcome false next stage some freed rest more = absurd (some freed.0)

@@ -1,4 +1,5 @@
 -- Steps of the stage in which a host has its hold.
+use Rattle.file_plans.specs.laws.BaseLaws.{IsStill, base_still, still_looks}
 use Rattle.std.specs.Option.{option_or}
 use Rattle.plan_parts.specs.laws.BlockLaws.{both_images}
 use Rattle.lock_store.specs.Memories.{holds}
@@ -13,8 +14,6 @@ use Rattle.host_facts.specs.Wrote.{HasValidImage, Wrote}
 use Rattle.call_effects.specs.Places.{IsPlaced}
 use Rattle.vol_base.specs.declared.plain.PlainReply.TheVariants.{Done}
 use Rattle.plan_parts.specs.laws.PlacedLaws.{placed_write}
-use Rattle.table_blocks.specs.Tables.{IsPackingOf}
-use Rattle.std.proofs.Common.{◌<◌}
 use Rattle.std.proofs.Common.{◌≡◌, ◌≢◌, ℕ, [], true, None, Option, Some, refl, ap, sym, subst, ◌∙◌}
 use Rattle.std.specs.Prelude.{Ok, IsSome}
 use Rattle.vol_base.specs.declared.answer.Next.{Next}
@@ -22,16 +21,13 @@ use Rattle.vol_base.specs.declared.block.Block.{Block}
 use Rattle.vol_base.specs.declared.command.Command.{Command}
 use Rattle.vol_base.specs.declared.plain.PlainCall.{PlainCall}
 use Rattle.vol_base.specs.declared.plain.PlainReply.{PlainReply}
-use Rattle.vol_base.specs.Packing.{Packing}
 use Rattle.vol_base.specs.PlainCalls.{plain_call_of}
 use Rattle.vol_layout.specs.declared.geometry.Geometry.{Geometry}
-use Rattle.vol_layout.specs.declared.kind.Table.{Table}
 use Rattle.shared_disk.specs.Events.{Event}
 use Rattle.shared_disk.specs.State.{OnImages}
-use Rattle.lock_store.specs.declared.host.HostState.{HostState}
 use Rattle.lock_store.specs.Views.{host_at, key_at, told_of}
 use Rattle.disk_locks.specs.Consistent.{Consistent}
-use Rattle.held_cache.specs.Kept.{Cache, IsFileTable, kept_at}
+use Rattle.held_cache.specs.Kept.{Cache, kept_at}
 use Rattle.call_effects.specs.Places.{Places}
 use Rattle.host_facts.specs.Facts.Fact.{RecordIs, TableIs}
 use Rattle.host_facts.specs.Knows.{Knows}
@@ -44,8 +40,7 @@ use Rattle.plan_parts.specs.QuietCalls.{Noted, QuietCall, placed_of}
 use Rattle.plan_parts.specs.declared.outcome.Outcome.{Outcome}
 use Rattle.plan_parts.specs.declared.outcome.Outcome.TheVariants as outcomes
 use Rattle.plan_parts.specs.laws.PlacedLaws.{noted_placed}
-use Rattle.plan_parts.specs.laws.TakenLaws.{taking_same}
-use Rattle.file_plans.specs.Bases.{HasHold, IsBase, IsCached, MayComeTo}
+use Rattle.file_plans.specs.Bases.{HasHold, IsBase, MayComeTo}
 use Rattle.file_plans.specs.Calls.{Runs, file_of}
 use Rattle.file_plans.specs.Stands.{At}
 use Rattle.file_plans.specs.Went.{IsRest, Went}
@@ -78,33 +73,8 @@ use Rattle.vol_layout.specs.declared.kind.Kind.TheVariants as kinds
 pub joined_has_key : (v : WorldView) (h : ℕ) → Consistent v.locks → (host_at v.locks h).joined ≡ true → key_at v.locks h ≢ 0
 joined_has_key v h c joined = joined_key v.locks.geometry.hosts _ h (host_at v.locks h) (c.memories h) joined
 
--- what is kept stays known where the facts on tables stay
-pub cached_on : (v w : WorldView) (c : Cache) (h : ℕ) → w.locks.geometry ≡ v.locks.geometry
-    → ((t : Table) (p : Packing) → Knows v h (TableIs t p) → Knows w h (TableIs t p)) → IsCached v c h → IsCached w c h
-cached_on v w c h geometry tables cached = record {
-  volume = cached.volume ∙ sym geometry;
-  known = λ t p is kept.
-      let known = cached.known t p (subst (λ (g : Geometry). IsFileTable g t) geometry is) kept in (
-        tables t p known.0,
-        subst (λ (g : Geometry). IsPackingOf g t p) (sym geometry) known.1,
-      );
-}
-
--- the base stands where memory and the facts on tables stay
-pub base_on : (v w : WorldView) (c : Cache) (core : Core) → w.locks.geometry ≡ v.locks.geometry
-    → host_at w.locks core.host ≡ host_at v.locks core.host
-    → ((t : Table) (p : Packing) → Knows v core.host (TableIs t p) → Knows w core.host (TableIs t p)) → IsBase v c core → IsBase w c core
-base_on v w c core geometry memory tables base = record {
-  host = subst (λ (g : Geometry). core.host < g.hosts) (sym geometry) base.host;
-  file = subst (λ (g : Geometry). file_of core.call < g.files) (sym geometry) base.file;
-  joined = ap (λ (m : HostState). m.joined) memory ∙ base.joined;
-  hold = subst (HasHold core.call) (sym memory) base.hold;
-  taking = taking_same v w core.host core.taken geometry memory base.taking;
-  cached = cached_on v w c core.host geometry tables base.cached;
-}
-
 pub base_looks : (v w : WorldView) (c : Cache) (core : Core) → Looks core.host v w → IsBase v c core → IsBase w c core
-base_looks v w c core looks = base_on v w c core looks.geometry looks.memory (λ t p. looks.facts (TableIs t p))
+base_looks v w c core looks = base_still v w c core (still_looks core.host v w looks) core.outcome
 
 -- what a call comes to is none of its base
 pub base_comes : (v : WorldView) (c : Cache) (core : Core) (outcome : Outcome) → IsBase v c core
@@ -246,7 +216,13 @@ pub own_went : (v w : WorldView) (c : Cache) (core : Core) (d : ℕ) (done : Uni
 own_went v w c core d done next stage is before after sight has did others valid wrote placed rest = cases core.call refl sight
   where
     base : IsBase w c core
-    base = base_on v w c core wrote.geometry wrote.memory (λ t p. wrote.facts (TableIs t p) (λ e. cc)) is.0.base
+    base =
+        let still : IsStill core.host v w = record {
+          geometry = wrote.geometry;
+          memory = wrote.memory;
+          tables = λ t p. wrote.facts (TableIs t p) (λ e. cc);
+        } in
+        base_still v w c core still core.outcome is.0.base
 
     cases : (call : FileCall) → core.call ≡ call → IsSight v.locks.geometry (kept_at c core.host) call (sights.Own d)
         → Went v w c core (record core { outcome = outcomes.Placed Done }) stages.Sees

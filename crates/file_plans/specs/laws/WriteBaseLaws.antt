@@ -1,5 +1,6 @@
 -- What stands of a fresh write stands still: over an own call that keeps the file's hold and all facts, and over the calls of others.
-use Rattle.std.proofs.Common.{◌≡◌, ◌≢◌, ◌<◌, ◌≤◌, ◌/◌, ◌+◌, ◌||◌, ℕ, Bool, true, false, List, [], None, Option, Some}
+use Rattle.file_plans.specs.laws.BaseLaws.{IsStill, base_still}
+use Rattle.std.proofs.Common.{◌≡◌, ◌≢◌, ◌<◌, ◌≤◌, ◌/◌, ◌+◌, ℕ, Bool, true, false, List, [], None, Option, Some}
 use Rattle.std.proofs.Common.{refl, ap, sym, subst, ◌∙◌, arith, inl, inr, true≢false}
 use Rattle.std.specs.Prelude.{if◌then◌else◌}
 use Rattle.std.proofs.lemmas.Bool.{cases_lt, eq-eqb, eqb-true}
@@ -8,34 +9,27 @@ use Rattle.vol_base.specs.declared.plain.PlainCall.TheVariants as calls
 use Rattle.vol_layout.specs.declared.field.Field.TheVariants.{Count}
 use Rattle.vol_layout.specs.declared.geometry.Geometry.{Geometry}
 use Rattle.vol_layout.specs.declared.kind.Resource.{Resource}
-use Rattle.vol_layout.specs.declared.kind.Resource.TheVariants.{File, Group}
+use Rattle.vol_layout.specs.declared.kind.Resource.TheVariants.{Group}
 use Rattle.vol_layout.specs.declared.kind.Table.{Table}
 use Rattle.vol_layout.specs.declared.kind.Table.TheVariants as tables
 use Rattle.vol_layout.specs.Fields.{HasField, table_of}
 use Rattle.vol_layout.specs.Ranges.{HasTable, per_table}
 use Rattle.table_blocks.specs.Tables.{IsPackingOf}
 use Rattle.lock_store.specs.declared.host.HostState.{HostState}
-use Rattle.lock_store.specs.Memories.{holds, reads}
-use Rattle.lock_store.specs.Views.{host_at, key_at}
-use Rattle.disk_locks.specs.Consistent.{Consistent}
+use Rattle.lock_store.specs.Memories.{holds}
+use Rattle.lock_store.specs.Views.{host_at}
 use Rattle.disk_locks.specs.Keys.{owner}
-use Rattle.held_cache.specs.Kept.{Cache, IsFileTable, kept_at}
+use Rattle.held_cache.specs.Kept.{Cache, kept_at}
 use Rattle.host_facts.specs.Facts.Fact.{RecordIs, TableIs}
 use Rattle.host_facts.specs.Knows.{Knows}
-use Rattle.host_facts.specs.Looks.{Looks}
-use Rattle.host_facts.specs.Others.{Others}
 use Rattle.host_facts.specs.Views.{WorldView}
-use Rattle.host_facts.specs.laws.FactLaws.{joined_key}
 use Rattle.plan_parts.specs.KeptTables.{IsKept}
 use Rattle.plan_parts.specs.Searches.{IsHunting, first_of, group_at}
-use Rattle.plan_parts.specs.TakenLocks.{IsTaken, IsTaking}
+use Rattle.plan_parts.specs.TakenLocks.{IsTaken}
 use Rattle.plan_parts.specs.declared.kept.Kept.{Kept}
-use Rattle.plan_parts.specs.declared.outcome.Outcome.{Outcome}
 use Rattle.plan_parts.specs.laws.GroupOrderLaws.{run_taken}
 use Rattle.plan_parts.specs.laws.SearchLaws.{taken_held}
-use Rattle.plan_parts.specs.laws.TakenLaws.{taking_same}
-use Rattle.file_plans.specs.Bases.{HasHold, IsBase, IsCached}
-use Rattle.file_plans.specs.Calls.{file_of, is_write}
+use Rattle.file_plans.specs.Calls.{is_write}
 use Rattle.file_plans.specs.Commits.{IsOld}
 use Rattle.file_plans.specs.Sights.{IsSight}
 use Rattle.file_plans.specs.Stands.{IsFoundBlock, IsFreshBlock, IsMet, shared_of}
@@ -48,10 +42,6 @@ use Rattle.file_plans.specs.declared.old.Old.TheVariants as olds
 use Rattle.file_plans.specs.declared.sight.Sight.{Sight}
 use Rattle.file_plans.specs.declared.sight.Sight.TheVariants as sights
 use Rattle.file_plans.specs.declared.stage.Fresh.{Fresh}
-
--- the plan's core with other locks, and another outcome
-abbrev pub coming : Core → List Resource → Outcome → Core
-coming core taken outcome = record { host = core.host; call = core.call; taken = taken; outcome = outcome }
 
 -- a fresh block is searched for a write alone
 pub fresh_write : (g : Geometry) (known : Table → Option Packing) (call : FileCall) (old : Option ℕ)
@@ -76,59 +66,8 @@ count_other t d is same =
     let none : has_count (table_of (Count d)) d ≡ false = subst (λ (u : Table). has_count u d ≡ false) same is in
     true≢false (sym there ∙ none)
 
--- a hold of the file stands where its lock does in the host's memory
-pub hold_on : (call : FileCall) (m n : HostState) → holds n (File (file_of call)) ≡ holds m (File (file_of call))
-    → reads n (File (file_of call)) ≡ reads m (File (file_of call)) → HasHold call m → HasHold call n
-hold_on (Plain (calls.Read f i)) m n held read is =
-    ap (λ (b : Bool). b || reads n (File f)) held ∙ ap (λ (b : Bool). holds m (File f) || b) read ∙ is
-hold_on call m n held read is = held ∙ is
-
--- the host's memory, its tables and the volume are as before
-pub record IsStill (h : ℕ) (v w : WorldView) : Type 0 where
-  pub geometry : w.locks.geometry ≡ v.locks.geometry
-  pub memory : host_at w.locks h ≡ host_at v.locks h
-  pub tables : (t : Table) (p : Packing) → Knows v h (TableIs t p) → Knows w h (TableIs t p)
-
-pub still_looks : (h : ℕ) (v w : WorldView) → Looks h v w → IsStill h v w
-still_looks h v w looks = record {
-  geometry = looks.geometry;
-  memory = looks.memory;
-  tables = λ t p known. looks.facts (TableIs t p) known;
-}
-
-pub base_key : (v : WorldView) (c : Cache) (core : Core) → Consistent v.locks → IsBase v c core → key_at v.locks core.host ≢ 0
-base_key v c core is base = joined_key v.locks.geometry.hosts _ core.host (host_at v.locks core.host) (is.memories core.host) base.joined
-
-pub still_others : (v w : WorldView) (h x : ℕ) → Others x v w → h ≢ x → key_at v.locks h ≢ 0 → IsStill h v w
-still_others v w h x others apart some = record {
-  geometry = others.locks.lasts.geometry;
-  memory = (others.locks.keeps h apart some).memory;
-  tables = λ t p known. others.facts h (TableIs t p) apart known;
-}
-
 module _ (v w : WorldView) (c : Cache) (core : Core) (geometry : w.locks.geometry ≡ v.locks.geometry)
     (facts : (t : Table) (p : Packing) → Knows v core.host (TableIs t p) → Knows w core.host (TableIs t p)) where
-  cached_on : IsCached v c core.host → IsCached w c core.host
-  cached_on is = record {
-    volume = is.volume ∙ sym geometry;
-    known = λ t p file kept.
-        let old = is.known t p (subst (λ (g : Geometry). IsFileTable g t) geometry file) kept in
-        (facts t p old.0, subst (λ (g : Geometry). IsPackingOf g t p) (sym geometry) old.1);
-  }
-
-  -- what the host has stands with other locks
-  pub base_on : (taken : List Resource) (outcome : Outcome) → (host_at w.locks core.host).joined ≡ true
-      → HasHold core.call (host_at w.locks core.host) → IsTaking w core.host taken → IsBase v c core
-      → IsBase w c (coming core taken outcome)
-  base_on taken outcome joined hold taking is = record {
-    host = subst (λ (g : Geometry). core.host < g.hosts) (sym geometry) is.host;
-    file = subst (λ (g : Geometry). file_of core.call < g.files) (sym geometry) is.file;
-    joined = joined;
-    hold = hold;
-    taking = taking;
-    cached = cached_on is.cached;
-  }
-
   pub sight_on : (sight : Sight) → IsSight v.locks.geometry (kept_at c core.host) core.call sight
       → IsSight w.locks.geometry (kept_at c core.host) core.call sight
   sight_on sight is = subst (λ (g : Geometry). IsSight g (kept_at c core.host) core.call sight) (sym geometry) is
@@ -201,12 +140,6 @@ module _ (v w : WorldView) (c : Cache) (core : Core) (still : IsStill core.host 
   held_still : (r : Resource) → holds (host_at v.locks core.host) r ≡ true → holds (host_at w.locks core.host) r ≡ true
   held_still r is = ap (λ (m : HostState). holds m r) still.memory ∙ is
 
-  pub base_still : (outcome : Outcome) → IsBase v c core → IsBase w c (coming core core.taken outcome)
-  base_still outcome is =
-      base_on v w c core still.geometry still.tables core.taken outcome (ap (λ (m : HostState). m.joined) still.memory ∙ is.joined)
-      (subst (HasHold core.call) (sym still.memory) is.hold)
-      (taking_same v w core.host core.taken still.geometry still.memory is.taking) is
-
   pub kept_same : (k : Kept) → IsKept v core.host k → IsKept w core.host k
   kept_same k is = kept_on v w c core still.geometry still.tables k (held_still (owner k.which) is.held) is
 
@@ -220,7 +153,7 @@ module _ (v w : WorldView) (c : Cache) (core : Core) (still : IsStill core.host 
 
   pub fresh_same : (fresh : Fresh) → Knows w core.host (RecordIs []) → IsFreshBlock v c core fresh → IsFreshBlock w c core fresh
   fresh_same fresh empty is = record {
-    comes = record { base = base_still core.outcome is.comes.base; empty = empty; comes = is.comes.comes };
+    comes = record { base = base_still v w c core still core.outcome is.comes.base; empty = empty; comes = is.comes.comes };
     sight = sight_on v w c core still.geometry still.tables (sights.Fresh (shared_of fresh.left)) is.sight;
     block = found_same fresh.number fresh.group is.block;
     left = old_same fresh.group fresh.left is.left;

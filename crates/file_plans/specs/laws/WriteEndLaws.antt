@@ -41,7 +41,7 @@ use Rattle.file_plans.specs.declared.state.Core.{Core}
 use Rattle.file_plans.specs.declared.stage.Stage.{Stage}
 use Rattle.file_plans.specs.declared.stage.Stage.TheVariants as stages
 use Rattle.file_plans.specs.laws.RestLaws.{went_on, went_rest}
-use Rattle.file_plans.specs.laws.WriteBaseLaws.{IsStill, base_key, base_still, coming, still_looks}
+use Rattle.file_plans.specs.laws.BaseLaws.{IsStill, base_key, base_still, coming, still_looks}
 
 -- a command on a file frees no dead host's locks
 frees_none : (command : Command) (call : FileCall) → Runs command call → frees_locks command ≡ false

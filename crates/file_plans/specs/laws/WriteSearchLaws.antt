@@ -42,9 +42,12 @@ use Rattle.file_plans.specs.Writes.{behind_found, behind_other, has_count, kept_
 use Rattle.file_plans.specs.Went.{IsRest, Went}
 use Rattle.file_plans.specs.declared.state.Core.{Core}
 use Rattle.file_plans.specs.declared.stage.Stage.{Stage}
-use Rattle.file_plans.specs.laws.WriteBaseLaws.{IsStill, base_on, base_still, coming, count_has, count_other}
-use Rattle.file_plans.specs.laws.WriteBaseLaws.{fresh_write, hold_on, kept_same, met_more, met_on, sight_on}
-use Rattle.file_plans.specs.laws.WriteBaseLaws.{shared_has, still_looks}
+use Rattle.file_plans.specs.laws.BaseLaws.{IsStill, base_on, base_still, coming}
+use Rattle.file_plans.specs.laws.WriteBaseLaws.{count_has, count_other}
+use Rattle.file_plans.specs.laws.BaseLaws.{hold_on}
+use Rattle.file_plans.specs.laws.WriteBaseLaws.{fresh_write, kept_same, met_more, met_on, sight_on}
+use Rattle.file_plans.specs.laws.BaseLaws.{still_looks}
+use Rattle.file_plans.specs.laws.WriteBaseLaws.{shared_has}
 use Rattle.file_plans.specs.declared.old.Old.{Old}
 use Rattle.file_plans.specs.declared.old.Old.TheVariants as olds
 use Rattle.file_plans.specs.declared.sight.Sight.TheVariants as sights

@@ -36,7 +36,8 @@ use Rattle.file_plans.specs.Stands.{At}
 use Rattle.file_plans.specs.Writes.{puts_for}
 use Rattle.file_plans.specs.Went.{Went}
 use Rattle.file_plans.specs.declared.state.Core.{Core}
-use Rattle.file_plans.specs.laws.WriteBaseLaws.{IsStill, base_still, coming, found_on, found_same, fresh_same, sight_on, still_looks}
+use Rattle.file_plans.specs.laws.BaseLaws.{IsStill, base_still, coming, still_looks}
+use Rattle.file_plans.specs.laws.WriteBaseLaws.{found_on, found_same, fresh_same, sight_on}
 use Rattle.file_plans.specs.declared.old.Old.TheVariants as olds
 use Rattle.file_plans.specs.declared.sight.Sight.TheVariants as sights
 use Rattle.file_plans.specs.declared.stage.Fresh.{Fresh}

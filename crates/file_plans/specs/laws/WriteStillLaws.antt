@@ -23,7 +23,8 @@ use Rattle.file_plans.specs.declared.state.Core.{Core}
 use Rattle.file_plans.specs.declared.sight.Sight.TheVariants as sights
 use Rattle.file_plans.specs.declared.stage.Fresh.{Fresh}
 use Rattle.file_plans.specs.declared.stage.Stage.TheVariants as stages
-use Rattle.file_plans.specs.laws.WriteBaseLaws.{IsStill, base_key, base_still, found_same, fresh_same, kept_same, sight_on, still_others}
+use Rattle.file_plans.specs.laws.BaseLaws.{IsStill, base_key, base_still, still_others}
+use Rattle.file_plans.specs.laws.WriteBaseLaws.{found_same, fresh_same, kept_same, sight_on}
 
 module _ (v w : WorldView) (c : Cache) (core : Core) (x : ℕ) (is : Consistent v.locks) (others : Others x v w) (apart : core.host ≢ x) where
   -- what stands before any step of a call that has its hold

@@ -155,7 +155,7 @@ journal-formatted : (g : Geometry) (counter : ℕ) (image : Image) (h : ℕ) →
 unfolding journal
 journal-formatted g counter image h formatted below = (blank_journal g counter (block_at g image (kinds.Journal h)) (formatted.journals h below)).0
 
-all_empty : (j : ℕ → List Edit) (a n m : ℕ) → a + n ≤ m → ((k : ℕ) → k < m → j k ≡ []) → flat_map j (range_with_len a n) ≡ []
+pub all_empty : (j : ℕ → List Edit) (a n m : ℕ) → a + n ≤ m → ((k : ℕ) → k < m → j k ≡ []) → flat_map j (range_with_len a n) ≡ []
 all_empty j a zero m le none = refl
 all_empty j a (suc n) m le none = rw (none a (omega arith), all_empty j (a + 1) n m (omega arith) none) refl
 

@@ -31,7 +31,7 @@ use Rattle.vol_layout.specs.declared.kind.Kind.TheVariants as kinds
 use Rattle.vol_layout.specs.declared.kind.Resource.{Resource}
 use Rattle.vol_layout.specs.Places.{place_of}
 use Rattle.vol_layout.specs.Ranges.{HasResource}
-use Rattle.plan_parts.specs.Cuts.{IsCauseOf, IsCut, IsCutBy}
+use Rattle.plan_parts.specs.Cuts.{IsCauseOf, IsCut, IsCutBy, IsUntouched}
 
 -- the place of a call
 abbrev pub IsAt : Call → ℕ → Type 0
@@ -141,3 +141,13 @@ cut_weaker command v w h why Before (e, cut) = (
     allowed = λ m turn of before. cut.allowed m turn of tt;
   },
 )
+
+-- a step that was refused memory did nothing
+pub cut_untouched : (command : Command) (h : ℕ) (v w : WorldView) (Before : Notes → Type 0) → IsCutBy command h v w steps.NoMemory Before
+    → IsUntouched h v w
+cut_untouched command h v w Before (e, cut) = record {
+  state = cut.state;
+  geometry = cut.geometry;
+  memory = cut.same refl;
+  room = (cut.acts.memory cut.cause).0;
+}

@@ -11,7 +11,7 @@ use Rattle.plan_parts.specs.KeptTables.{AreTwo, IsLeft}
 use Rattle.plan_parts.specs.TableOrder.{same_table, tables_else, tables_of}
 use Rattle.plan_parts.specs.declared.kept.Kept.{Kept}
 
-same_table-is : (t u : Table) → same_table t u ≡ true → t ≡ u
+pub same_table-is : (t u : Table) → same_table t u ≡ true → t ≡ u
 same_table-is (File f) (File e) is = ap File (eqb-true f e is)
 same_table-is (Group f) (Group e) is = ap Group (eqb-true f e is)
 same_table-is (Part f) (Part e) is = ap Part (eqb-true f e is)
@@ -22,7 +22,7 @@ same_table-is (More f t) (More e u) is =
     cc
 same_table-is _ _ is = absurd cc
 
-same_table-self : (t : Table) → same_table t t ≡ true
+pub same_table-self : (t : Table) → same_table t t ≡ true
 same_table-self (File f) = eq-eqb f f refl
 same_table-self (Group f) = eq-eqb f f refl
 same_table-self (Part f) = eq-eqb f f refl

@@ -1,5 +1,5 @@
 -- The first step of a `recover`.
-use Rattle.std.proofs.Common.{◌≡◌, ◌≢◌, ◌≤◌, ◌<◌, ◌%◌, ◌^◌, ℕ, List, None, Option, Some, refl, ap, sym, subst, ◌∙◌}
+use Rattle.std.proofs.Common.{◌≡◌, ◌≢◌, ◌≤◌, ◌<◌, ◌%◌, ◌^◌, ℕ, List, None, Option, Some, refl, ap, sym, subst, ◌∙◌, ◌+◌, arith}
 use Rattle.std.specs.Prelude.{option_map}
 use Rattle.vol_base.specs.declared.answer.Answer.TheVariants as answers
 use Rattle.vol_base.specs.declared.answer.Step.{Step}
@@ -22,6 +22,8 @@ use Rattle.host_notes.specs.Owes.{Owes, plan_moment}
 use Rattle.plan_parts.specs.Steps.{OwesStep}
 use Rattle.plan_parts.specs.laws.QuietCallLaws.{valid_now}
 use Rattle.recover_plan.specs.PlanSteps.{RestsWith}
+use Rattle.host_facts.specs.Facts.{locks_of}
+use Rattle.recover_plan.specs.Stages.{steps_left}
 use Rattle.recover_plan.specs.Plans.{Agrees, Behind, Came, IsRecovering, PlanStands, StandsBehind, step_of}
 use Rattle.recover_plan.specs.Replaying.{IsRecoverer}
 use Rattle.recover_plan.specs.SlotTurns.{at_look}
@@ -131,6 +133,8 @@ module _ (v : WorldView) (h of : ℕ) (watch : List (Option Look)) (c : Consiste
           );
     };
     stands = stands.watched;
+    tables = λ keeps uncut t p was. was;
+    fewer = omega arith;
   }
 
 -- what notes that say more owe
@@ -146,12 +150,15 @@ owes_stronger command h v w step Before Now After says owed = record {
 
 -- a step of the recovery as the first one of its command
 pub begin_came : (h of : ℕ) (v w : WorldView) (watch after : List (Option Look)) (stage : Replay) (come : Come)
-    → ((n : Notes) → Agrees h v watch (Begin of) n → Agrees h v watch (First of stage) n) → Came h v w watch after (First of stage) come
+    → ((n : Notes) → Agrees h v watch (Begin of) n → Agrees h v watch (First of stage) n)
+    → steps_left v.locks.geometry stage ≤ locks_of v.locks.geometry + 21 → Came h v w watch after (First of stage) come
     → Came h v w watch after (Begin of) come
-begin_came h of v w watch after stage come says came = record {
+begin_came h of v w watch after stage come says most came = record {
   owes = owes_stronger (commands.Recover of) h v w (step_of come) (Agrees h v watch (First of stage)) (Agrees h v watch (Begin of))
       (Behind h w after come) says came.owes;
   stands = behind come came.stands;
+  tables = came.tables;
+  fewer = let less = came.fewer in omega (arith, less, most);
 }
   where
     behind : (x : Come) → StandsBehind w h after (First of stage) x → StandsBehind w h after (Begin of) x

@@ -33,7 +33,7 @@ use Rattle.host_runs.specs.NotedCalls.{SwapsKind}
 use Rattle.host_runs.specs.Notes.{Notes}
 use Rattle.host_runs.specs.Tries.{Tries, join_shows, no_tries, not_own, recover_shows, with_slot}
 use Rattle.host_runs.specs.Words.{key_in, state_in}
-use Rattle.host_facts.specs.Facts.Fact.{Given, Off, RecordIs}
+use Rattle.host_facts.specs.Facts.Fact.{Given, Off, RecordIs, TableIs}
 use Rattle.host_facts.specs.Knows.{Knows}
 use Rattle.host_facts.specs.Others.{Others}
 use Rattle.host_facts.specs.SlotResults.{HasClaimed, HasFenced, HasSeen}
@@ -59,14 +59,17 @@ use Rattle.plan_parts.specs.QuietCalls.{Allows, QuietCall}
 use Rattle.plan_parts.specs.laws.CutCallLaws.{cut_of}
 use Rattle.plan_parts.specs.laws.QuietCallLaws.{quiet_call, valid_now}
 use Rattle.recover_plan.specs.RecoverNotes.{FoundNoted, MayTakeOff, Recovers, StageNoted, dead_of, key_found}
-use Rattle.recover_plan.specs.Replays.{IsCutAt, Went}
+use Rattle.recover_plan.specs.Replays.{IsCutAt, IsThere, SeesSlot, Went}
+use Rattle.image_view.specs.Images.{block_at}
+use Rattle.host_facts.specs.laws.FindsLaws.{stands_sure}
+use Rattle.recover_plan.specs.laws.StepLaws.{none_told, slots_same, slots_written}
 use Rattle.recover_plan.specs.Stages.{AreOff, IsSeen, Stands, behind_fence}
 use Rattle.recover_plan.specs.declared.replay.Going.TheVariants as goings
 use Rattle.recover_plan.specs.declared.replay.Replay.{Replay}
 use Rattle.recover_plan.specs.declared.replay.Replay.TheVariants as stages
 use Rattle.recover_plan.specs.laws.NoteLaws.{claimed_noting, fenced_noting, under_way_on}
 use Rattle.recover_plan.specs.laws.StageLaws.{base_on, ready_on, ready_still, recoverer_on, seen_on}
-use Rattle.recover_plan.specs.laws.StepLaws.{locks_else}
+use Rattle.recover_plan.specs.laws.StepLaws.{locks_else, there_on}
 
 -- the key of a slot that is not free is one
 pub key_fits : (slot : Slot) → IsSlot slot → slot_key slot ≢ 0 → IsKey (slot_key slot)
@@ -127,6 +130,9 @@ module _ (v w : WorldView) (h of : ℕ) (is : Consistent v.locks) (later : Consi
     fenced : HasFenced h target.0 v w
     fenced = subst (λ (x : WorldView). HasFenced h target.0 v x) (locks_else v w same) (fenced_law v h w.locks is others.locks target did)
 
+    still : (slot : Slot) → IsThere v h of slot → IsThere w h of slot
+    still slot = there_on v w h of slot did.geometry (ap key_of did.mine) fenced.registered fenced.told
+
     no_test : (old new : List ℕ)
         → SwapsKind v.locks.geometry (kinds.Slot of) old new (Some (event (key_at v.locks h) (Fences target.0) Done)) → ⊥
     no_test old new swaps = let no : Fences target.0 ≡ Tests swaps.0 old new = swaps.2.0 in absurd cc
@@ -160,6 +166,9 @@ module _ (v w : WorldView) (h of : ℕ) (is : Consistent v.locks) (later : Consi
       no_entry = λ old key swaps. no_test old (slot_bytes (slots.Live key 0)) swaps;
       key = ap key_of did.mine;
       given = λ key. fenced.facts (Given key);
+      tables = λ t p. fenced.facts (TableIs t p);
+      slots = slots_same v w of fenced.told;
+      sees = λ there. subst (λ (r : Replay). SeesSlot w h of r) (sym is_next) (sees slot (still slot there));
       ready = ready_still v w h of did.geometry did.mine fenced.facts;
       quiet = λ command watch k recovers.
           subst (λ (s : Replay). QuietCall command h v w (event (key_at v.locks h) (Fences target.0) Done)
@@ -187,6 +196,11 @@ module _ (v w : WorldView) (h of : ℕ) (is : Consistent v.locks) (later : Consi
           off (slots.Recovering key by) seen is_key,
         )
 
+        sees : (slot : Slot) → IsThere w h of slot → SeesSlot w h of (behind_fence slot)
+        sees slots.Free there = there
+        sees (slots.Live key beat) there = there
+        sees (slots.Recovering key by) there = there
+
         fewer : (slot : Slot) → steps_left v.locks.geometry (behind_fence slot) < steps_left v.locks.geometry (stages.Fence slot)
         fewer slots.Free = omega arith
         fewer (slots.Live key beat) = omega arith
@@ -211,6 +225,9 @@ module _ (v w : WorldView) (h of : ℕ) (is : Consistent v.locks) (later : Consi
       no_entry = λ old key swaps. no_test old (slot_bytes (slots.Live key 0)) swaps;
       key = ap key_of did.mine;
       given = λ key. fenced.facts (Given key);
+      tables = λ t p. fenced.facts (TableIs t p);
+      slots = slots_same v w of fenced.told;
+      sees = still slot;
       ready = ready_still v w h of did.geometry did.mine fenced.facts;
       quiet = λ command watch k recovers.
           fence_quiet command watch k (stages.FenceBy slot) (stages.Claim slot) refl refl
@@ -250,6 +267,10 @@ module _ (v w : WorldView) (h of : ℕ) (is : Consistent v.locks) (later : Consi
           one_is_no_two (slot_says (slots.Live live 0)) (sym (ap state_in written) ∙ slot_says to);
       key = ap key_of did.mine;
       given = λ x. claimed.facts (Given x);
+      tables = λ t p. claimed.facts (TableIs t p);
+      slots = slots_written v w of (kinds.Slot of) (slot_bytes to) seen.base.below (λ y ne same. ne (let one : y ≡ of = cc in one))
+          did.acts.changes.1;
+      sees = λ there. tt;
       ready = ready_on v w h of did.geometry (ap (λ (m : HostState). m.joined) did.mine)
           (λ r. ap (λ (m : HostState). holds m r) did.mine) (claimed.facts (RecordIs []));
       quiet = λ command watch k recovers.
@@ -307,6 +328,17 @@ module _ (v w : WorldView) (h of : ℕ) (is : Consistent v.locks) (later : Consi
       no_entry = λ old live swaps. let no : Shows (slot_bytes found) ≡ Done = swaps.2.1 in absurd cc;
       key = ap key_of looks.memory;
       given = λ x. looks.facts (Given x);
+      tables = λ t p. looks.facts (TableIs t p);
+      slots = slots_same v w of (ap (λ (s : State). s.told) looks.state);
+      sees = λ there.
+          let told = ap (λ (s : State). s.told) looks.state in
+          let stands = stands_sure v.locks h (kinds.Slot of) (slot_bytes found) did.0.acts.changes.0 in (
+            there_on v w h of found looks.geometry (ap key_of looks.memory) looks.registered told stands,
+            told ∙ none_told (told_of v.locks) (join_told (told_of v.locks)
+                (λ t. block_at v.locks.geometry t.image (kinds.Slot of) ≡ slot_bytes from)
+                (λ t. block_at v.locks.geometry t.image (kinds.Slot of) ≡ slot_bytes found) (λ t. ⊥) (there looks.registered)
+                (stands looks.registered) (λ t was now. did.0.acts.changes.1 (sym now ∙ was))),
+          );
       ready = ready_still v w h of looks.geometry looks.memory looks.facts;
       quiet = λ command watch k recovers.
           quiet_call command v w h (claim_call v.locks h of from) (Shows (slot_bytes found)) (host_at v.locks h) _ _ did.0 tt others

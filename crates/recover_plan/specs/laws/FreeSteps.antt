@@ -30,7 +30,7 @@ use Rattle.disk_locks.specs.Others as locks'
 use Rattle.watch.specs.declared.watch.Look.{Look}
 use Rattle.watch.specs.Looks.{count_of, look_at}
 use Rattle.host_facts.specs.Facts.{locks_of}
-use Rattle.host_facts.specs.Facts.Fact.{Given}
+use Rattle.host_facts.specs.Facts.Fact.{Given, TableIs}
 use Rattle.host_facts.specs.Views.{WorldView}
 use Rattle.host_facts.specs.laws.ToldLaws.{map_told}
 use Rattle.host_runs.specs.DeviceCalls.{OnImage}
@@ -163,6 +163,9 @@ module _ (v w : WorldView) (h of : ℕ) (dead : ℕ) (watch after : List (Option
       owes = owes;
     };
     stands = watched_behind watched;
+    tables = λ keeps uncut t p.
+        (has_freed v w h of dead watch c later is swept others standing done did freed).facts (TableIs t p) (λ e. cc);
+    fewer = omega arith;
   }
 
   pub free_came : AreWatched v h watch → Came h v w watch after (Free of (key dead)) (Answered answers.Recovered)

@@ -55,12 +55,12 @@ module _ (v w : WorldView) (h : ℕ) (watch : List (Option Look)) (from : Slot) 
     (later : Consistent w.locks) (others : locks'.Others h v.locks w.locks) (standing : w.standing ≡ v.standing) (base : IsRecoverer v h h)
     (spelled : IsSlot from) (is_key : key.0 ≡ key_at v.locks h) (empty : slot_key from ≢ 0 → Knows v h (DeadRecord h []))
     (did : EntersSlot v.locks h from (Ok Claimed) w.locks) where
-  has_joined : HasJoined h from v w
+  pub has_joined : HasJoined h from v w
   has_joined =
       subst (λ (x : WorldView). HasJoined h from v x) (sym (locks_else v w standing)) (entered_law v h w.locks c others from spelled did)
 
   -- the host held nothing, and its journal is empty
-  joined_ready : IsReady w h
+  pub joined_ready : IsReady w h
   joined_ready = record {
     joined = has_joined.joined;
     empty = has_joined.empty empty;

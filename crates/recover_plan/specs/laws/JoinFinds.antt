@@ -37,6 +37,9 @@ use Rattle.plan_parts.specs.Steps.{OwesStep}
 use Rattle.plan_parts.specs.laws.TakenLaws.{others_locks}
 use Rattle.recover_plan.specs.Joins.{FindsOwn, IsDropped, IsLeftBy, join_found}
 use Rattle.recover_plan.specs.PlanSteps.{AreWatched, RestsWith, called_step}
+use Rattle.host_facts.specs.Facts.{locks_of}
+use Rattle.recover_plan.specs.CallsLeft.{calls_left}
+use Rattle.recover_plan.specs.KnownTables.{KeepsHolds}
 use Rattle.recover_plan.specs.Plans.{Agrees, Behind, Came, PlanStands, command_of, step_of}
 use Rattle.recover_plan.specs.RecoverNotes.{FoundNoted, IsUnderWay, key_found}
 use Rattle.recover_plan.specs.Stages.{IsSeen}
@@ -44,10 +47,11 @@ use Rattle.recover_plan.specs.SlotTurns.{SlotTurn}
 use Rattle.recover_plan.specs.declared.plan.Come.{Come}
 use Rattle.recover_plan.specs.declared.plan.Come.TheVariants.{Answered, More, Uncalled}
 use Rattle.recover_plan.specs.declared.plan.Doing.{Doing}
-use Rattle.recover_plan.specs.declared.plan.Doing.TheVariants.{EnterAgain, Over}
+use Rattle.recover_plan.specs.declared.plan.Doing.TheVariants.{Ended, Enter, EnterAgain, Over}
 use Rattle.recover_plan.specs.declared.replay.Replay.TheVariants.{Fence}
 use Rattle.recover_plan.specs.laws.JoinKeys.{by_again, free_shows, live_again, live_first, other_first, own_first}
 use Rattle.recover_plan.specs.laws.RegisterLaws.{nothing_watched}
+use Rattle.recover_plan.specs.laws.CallsLeftLaws.{calls_some}
 use Rattle.recover_plan.specs.laws.SlotEndings.{join_slot, shown_no_entry, taken_key}
 use Rattle.recover_plan.specs.laws.SlotOwes.{owes_join_busy, slot_goes_on}
 use Rattle.recover_plan.specs.laws.StepLaws.{agrees_on, quiet_slot_turn, wants_none}
@@ -79,7 +83,8 @@ module _ (v u w : WorldView) (h : ℕ) (watch after : List (Option Look)) (k : �
     (joins : command_of doing ≡ Join) (some : key_at v.locks h ≢ 0)
     (says : (n : Notes) → Agrees h v watch doing n → IsUnderWay h h v watch dead None n)
     (quiet : QuietCall Join h v u e (Agrees h v watch doing) (λ n. FoundNoted Join h h watch k u found n))
-    (shows : e.reply ≡ Shows (slot_bytes found)) (finds : FindsOwn u h found) (watched : AreWatched u h watch) where
+    (shows : e.reply ≡ Shows (slot_bytes found)) (finds : FindsOwn u h found) (watched : AreWatched u h watch)
+    (going : doing ≢ Ended) where
   abbrev at_try : WorldView → Notes → Moment
   at_try x n = plan_moment v.locks.geometry h Join v.locks.disk x.locks.disk (Some e) None n
 
@@ -100,7 +105,8 @@ module _ (v u w : WorldView) (h : ℕ) (watch after : List (Option Look)) (k : �
 
   -- the command goes on
   module _ (next : Doing) (also : command_of next ≡ Join) (stands : PlanStands u h watch next)
-      (agrees : (n : Notes) → FoundNoted Join h h watch k u found n → Agrees h u watch next n) where
+      (agrees : (n : Notes) → FoundNoted Join h h watch k u found n → Agrees h u watch next n)
+      (nearer : calls_left u h next < calls_left v h doing) where
     on_owed : (n : Notes) → Agrees h v watch doing n
         → (rest : Notes) × Owes v.locks.geometry h Join v.locks.disk u.locks.disk (Some e) None None n rest × Agrees h u watch next rest
     on_owed n noted = (
@@ -123,6 +129,8 @@ module _ (v u w : WorldView) (h : ℕ) (watch after : List (Option Look)) (k : �
             owes = on_owed;
           });
       stands = (stands, also ∙ sym joins);
+      tables = λ keeps uncut. absurd (subst KeepsHolds joins keeps);
+      fewer = nearer;
     }
 
     on_left : IsLeftBy h u w watch after (More next) → Came h v w watch after doing (More next)
@@ -156,10 +164,16 @@ module _ (v u w : WorldView) (h : ℕ) (watch after : List (Option Look)) (k : �
                 owes = busy_owed w (sym left.0.notes.disk) left.0.notes.mine;
               });
           stands = nothing_watched w h;
+          tables = λ keeps uncut. absurd (subst KeepsHolds joins keeps);
+          fewer = calls_some v h doing going;
         })
 
   -- it goes on to recover its older key, where this was its first try
-  module _ (first : k ≡ 0) where
+  module _ (first : k ≡ 0) (at_first : calls_left v h doing ≡ calls_left v h Enter) where
+    over_nearer : (slot : Slot) → calls_left u h (Over (Fence slot)) < calls_left v h doing
+    over_nearer slot =
+        rw at_first (subst (λ (g : Geometry). locks_of g + 21 + 1 < locks_of v.locks.geometry + 23) (sym quiet.geometry) (omega arith))
+
     fence_stands : (slot : Slot) → found ≡ slot → slot ≢ slots.Free → PlanStands u h watch (Over (Fence slot))
     fence_stands slot is taken = record {
       host = now_below;
@@ -219,7 +233,7 @@ module _ (v u w : WorldView) (h : ℕ) (watch after : List (Option Look)) (k : �
     first_came (slots.Live key beat) is taken left =
         on_left (Over (Fence (slots.Live key beat))) refl (fence_stands (slots.Live key beat) is taken)
         (fence_agrees (slots.Live key beat) (ap (key_found Join h (key_at u.locks h) 0) is ∙ live_first h (key_at u.locks h) key beat)
-        (live_may key beat is)) left
+        (live_may key beat is)) (over_nearer (slots.Live key beat)) left
     first_came (slots.Recovering key by) is taken left = by_own (by.0 % 16 == h) refl left
       where
         by_own : (b : Bool) → (by.0 % 16 == h) ≡ b
@@ -229,15 +243,16 @@ module _ (v u w : WorldView) (h : ℕ) (watch after : List (Option Look)) (k : �
             on_left (Over (Fence (slots.Recovering key by))) refl (fence_stands (slots.Recovering key by) is taken)
             (fence_agrees (slots.Recovering key by) (ap (key_found Join h (key_at u.locks h) 0) is
             ∙ own_first h (key_at u.locks h) key by (subst IsSlot is finds.spelled) own)
-            (recovering_may key by is (eqb-true (by.0 % 16) h own))) left
+            (recovering_may key by is (eqb-true (by.0 % 16) h own))) (over_nearer (slots.Recovering key by)) left
         by_own false other left =
             busy_left by (ap (λ (i : ℕ). key_found Join h (key_at u.locks h) i found) first ∙ ap (key_found Join h (key_at u.locks h) 0) is
             ∙ other_first h (key_at u.locks h) key by (subst IsSlot is finds.spelled) other (not_by (slots.Recovering key by) is)) left
 
   -- or answers, and enters a slot that its claim found free
-  pub again_came : (s : Slot) → found ≡ s → k ≢ 0 → (s ≡ slots.Free → k ≡ 1) → IsLeftBy h u w watch after (join_found h s true)
+  pub again_came : (s : Slot) → found ≡ s → k ≢ 0 → (s ≡ slots.Free → k ≡ 1) → (s ≡ slots.Free → 1 < calls_left v h doing)
+      → IsLeftBy h u w watch after (join_found h s true)
       → Came h v w watch after doing (join_found h s true)
-  again_came slots.Free is later' free left =
+  again_came slots.Free is later' free nearer left =
       on_left EnterAgain refl (record {
         host = now_below;
         at = record { base = finds.base; unclaimed = finds.unclaimed };
@@ -252,10 +267,10 @@ module _ (v u w : WorldView) (h : ℕ) (watch after : List (Option Look)) (k : �
           from = noted.under_way.from;
         };
         count = noted.count ∙ ap (λ (i : ℕ). i + 1) (free refl);
-      }) left
-  again_came (slots.Live key beat) is later' free left =
+      }) (nearer refl) left
+  again_came (slots.Live key beat) is later' free nearer left =
       busy_left key (ap (key_found Join h (key_at u.locks h) k) is
       ∙ live_again h (key_at u.locks h) key beat k later' (subst IsSlot is finds.spelled) (not_own (slots.Live key beat) is)) left
-  again_came (slots.Recovering key by) is later' free left =
+  again_came (slots.Recovering key by) is later' free nearer left =
       busy_left by (ap (key_found Join h (key_at u.locks h) k) is
       ∙ by_again h (key_at u.locks h) key by (subst IsSlot is finds.spelled) k later' (not_by (slots.Recovering key by) is)) left

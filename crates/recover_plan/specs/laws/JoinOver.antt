@@ -1,6 +1,6 @@
 -- The steps of a `join` that recover an older key of its host, and the entry from the claim of it.
-use Rattle.std.proofs.Common.{◌≡◌, ◌≢◌, ◌<◌, ◌∙◌, ℕ, List, None, Option, Some, true, refl, ap, sym, subst, arith, inl}
-use Rattle.std.specs.Prelude.{IfSome, Ok}
+use Rattle.std.proofs.Common.{◌≡◌, ◌≢◌, ◌<◌, ◌∙◌, ℕ, List, None, Option, Some, true, refl, ap, sym, subst, arith, inl, ◌+◌}
+use Rattle.std.specs.Prelude.{Ok}
 use Rattle.vol_base.specs.declared.answer.Answer.TheVariants as answers
 use Rattle.vol_base.specs.declared.block.Key.{Key}
 use Rattle.vol_base.specs.declared.command.Command.TheVariants.{Join}
@@ -9,7 +9,6 @@ use Rattle.vol_layout.specs.declared.kind.Kind.TheVariants as kinds
 use Rattle.vol_layout.specs.Places.{place_of}
 use Rattle.shared_disk.specs.Events.{Acts, Event, Shows, event}
 use Rattle.shared_disk.specs.Seen.{DiskSeen}
-use Rattle.shared_disk.specs.State.{Told}
 use Rattle.slot_lock_blocks.specs.declared.slot.Slot.{Slot}
 use Rattle.slot_lock_blocks.specs.declared.slot.Slot.TheVariants as slots
 use Rattle.slot_lock_blocks.specs.Keys.{IsKey}
@@ -54,6 +53,9 @@ use Rattle.recover_plan.specs.declared.replay.Going.TheVariants as goings
 use Rattle.recover_plan.specs.declared.replay.Replay.{Replay}
 use Rattle.recover_plan.specs.laws.FreeLaws.{swept_unneeded}
 use Rattle.recover_plan.specs.laws.JoinEntries.{joined_owes}
+use Rattle.recover_plan.specs.Stages.{steps_left}
+use Rattle.recover_plan.specs.laws.CallsLeftLaws.{some_left}
+use Rattle.recover_plan.specs.laws.StepLaws.{none_told}
 use Rattle.recover_plan.specs.laws.JoinFinds.{again_came, others_dropped}
 use Rattle.recover_plan.specs.laws.RegisterLaws.{nothing_watched}
 use Rattle.recover_plan.specs.laws.SlotEndings.{join_slot}
@@ -117,6 +119,9 @@ over_more_came v w h watch stage next c stands others went = record {
     },
     refl,
   );
+  tables = λ keeps uncut. absurd keeps;
+  fewer = subst (λ (g : Geometry). steps_left g next + 1 < steps_left v.locks.geometry stage + 1) (sym others.locks.lasts.geometry)
+      (omega (arith, went.fewer));
 }
 
 pub over_ready_came : (v w : WorldView) (h : ℕ) (watch : List (Option Look)) (stage : Replay) (dead : Key) → Consistent v.locks
@@ -138,6 +143,8 @@ over_ready_came v w h watch stage dead c stands others went = record {
     },
     refl,
   );
+  tables = λ keeps uncut. absurd keeps;
+  fewer = let some = some_left v h h stage stands.at in omega (arith, some);
 }
 
 -- the claim found another slot
@@ -159,7 +166,8 @@ over_found_came v u w h watch after stage from found c later stands others went 
       shown = went.stands.shown;
       by = went.stands.by;
     })
-    (over_watched v u h watch stage going c stands others went) found refl (λ e. omega (arith, e)) (λ free. refl) left
+    (over_watched v u h watch stage going c stands others went) (λ is. cc) found refl (λ e. omega (arith, e)) (λ free. refl)
+    (λ free. let some = some_left v h h stage stands.at in omega (arith, some)) left
 
 -- the claimed slot is entered
 abbrev pub own_claim : Key → Key → Slot
@@ -190,13 +198,11 @@ module _ (v : WorldView) (h : ℕ) (watch : List (Option Look)) (dead own : Key)
     owes = joined_owes v w h watch (slots.Recovering dead own) own c later others standing base retake_slot is (λ some. stands.at.empty) did
         (Agrees h v watch (Retake dead)) (Some dead.0) (λ n noted. noted);
     stands = nothing_watched w h;
+    tables = λ keeps uncut. absurd keeps;
+    fewer = omega arith;
   }
 
   -- where another slot is found, the device tells nothing
-  none_told : (told : Option Told) → IfSome told (λ t. ⊥) → told ≡ None
-  none_told None never = refl
-  none_told (Some t) never = absurd never
-
   untold : (u : WorldView) (found : Slot) → EntersSlot v.locks h (slots.Recovering dead own) (Ok (Found found)) u.locks → told_of v.locks ≡ None
   untold u found did =
       let g = v.locks.geometry in

@@ -48,11 +48,12 @@ use Rattle.plan_parts.specs.laws.QuietCallLaws.{quiet_call, valid_now}
 use Rattle.plan_parts.specs.laws.TakenLaws.{locks_else, others_locks}
 use Rattle.recover_plan.specs.Joins.{FindsOwn, IsLeftBy, entering, entries_before, join_found}
 use Rattle.recover_plan.specs.PlanSteps.{AreWatched}
+use Rattle.recover_plan.specs.CallsLeft.{calls_left}
 use Rattle.recover_plan.specs.Plans.{Agrees, Came, IsEntering, PlanStands, TriesNoted, command_of}
 use Rattle.recover_plan.specs.RecoverNotes.{FoundNoted, key_found}
 use Rattle.recover_plan.specs.Replaying.{IsRecoverer}
 use Rattle.recover_plan.specs.declared.plan.Come.TheVariants.{Answered}
-use Rattle.recover_plan.specs.declared.plan.Doing.TheVariants.{Enter, EnterAgain}
+use Rattle.recover_plan.specs.declared.plan.Doing.TheVariants.{Ended, Enter, EnterAgain}
 use Rattle.recover_plan.specs.laws.FenceLaws.{shown_by}
 use Rattle.recover_plan.specs.laws.JoinEntries.{joined_owes}
 use Rattle.recover_plan.specs.laws.JoinFinds.{again_came, first_came}
@@ -92,11 +93,15 @@ module _ (v w : WorldView) (h : ℕ) (watch : List (Option Look)) (again : Bool)
         owes = joined_owes v w h watch slots.Free key c later others standing at.at.base tt is_key (λ taken. absurd (taken refl)) did
             (Agrees h v watch Enter) None (λ n noted. noted.under_way);
         stands = nothing_watched w h;
+        tables = λ keeps uncut. absurd keeps;
+        fewer = omega arith;
       }
       by_try true is at = record {
         owes = joined_owes v w h watch slots.Free key c later others standing at.at.base tt is_key (λ taken. absurd (taken refl)) did
             (Agrees h v watch EnterAgain) None (λ n noted. noted.under_way);
         stands = nothing_watched w h;
+        tables = λ keeps uncut. absurd keeps;
+        fewer = omega arith;
       }
 
 -- it shows another slot
@@ -110,10 +115,10 @@ module _ (v u w : WorldView) (h : ℕ) (watch after : List (Option Look)) (again
   abbrev tried : Event
   tried = event (key_at v.locks h) (enter_call v.locks h slots.Free) (Shows (slot_bytes found))
 
-  sees : HasSeen h found v u
+  pub sees : HasSeen h found v u
   sees = subst (λ (x : WorldView). HasSeen h found v x) (sym (locks_else v u standing)) (enter_found_law v h u.locks c others slots.Free found did)
 
-  still : u.locks.disk.state ≡ v.locks.disk.state → FilesStay v u
+  pub still : u.locks.disk.state ≡ v.locks.disk.state → FilesStay v u
   still state = both_same (told_of v.locks) (told_of u.locks) KeepsFiles (ap (λ (s : State). s.told) state) (λ image f. refl)
 
   found_noted : (n : Notes) → Agrees h v watch (entering again) n
@@ -145,7 +150,7 @@ module _ (v u w : WorldView) (h : ℕ) (watch after : List (Option Look)) (again
       (others_locks v u h c others standing) (valid_now u later) (still did.0.acts.changes.2)
       (λ m turn of before. allowed_enter v.locks h m turn c slots.Free (Shows (slot_bytes found)) base.host base.key) found_noted
 
-  finds : FindsOwn u h found
+  pub finds : FindsOwn u h found
   finds = record {
     base = base_on v u h h sees.looks.geometry sees.looks.memory sees.looks.facts base;
     unclaimed = ap (λ (m : HostState). claim_of m h) sees.looks.memory ∙ (entering_at v h watch again stands).unclaimed;
@@ -166,22 +171,28 @@ module _ (v u w : WorldView) (h : ℕ) (watch after : List (Option Look)) (again
         by = sees.looks.facts (Given (slot_by look.slot)) was.by;
       }
 
-  taken : found ≢ slots.Free
+  pub taken : found ≢ slots.Free
   taken free = did.0.acts.changes.1 (ap slot_bytes free)
 
   pub entry_found_came : IsLeftBy h u w watch after (join_found h found again) → Came h v w watch after (entering again) (join_found h found again)
   entry_found_came left = by_try again refl left
     where
+      going : (b : Bool) → entering b ≢ Ended
+      going false is = cc
+      going true is = cc
+
       by_try : (b : Bool) → again ≡ b → IsLeftBy h u w watch after (join_found h found b)
           → Came h v w watch after (entering again) (join_found h found b)
       by_try false is left =
           first_came v u w h watch after (entries_before again) found tried (entering again) None c later below (joins again) base.key
-          (λ n noted. (entering_noted h v watch again n noted).under_way) found_quiet refl finds watched (ap entries_before is) found refl taken
+          (λ n noted. (entering_noted h v watch again n noted).under_way) found_quiet refl finds watched (going again)
+          (ap entries_before is) (ap (λ (b : Bool). calls_left v h (entering b)) is) found refl taken
           left
       by_try true is left =
           again_came v u w h watch after (entries_before again) found tried (entering again) None c later below (joins again) base.key
-          (λ n noted. (entering_noted h v watch again n noted).under_way) found_quiet refl finds watched found refl
-          (λ none. let two = ap entries_before is in omega (arith, two, none)) (λ free. absurd (taken free)) left
+          (λ n noted. (entering_noted h v watch again n noted).under_way) found_quiet refl finds watched (going again)
+          found refl
+          (λ none. let two = ap entries_before is in omega (arith, two, none)) (λ free. absurd (taken free)) (λ free. absurd (taken free)) left
 
 -- the entry was refused
 pub entry_cut : (v w : WorldView) (h : ℕ) (from : Slot) (why : StepNo) (Before : Notes → Type 0) → Consistent v.locks → IsRecoverer v h h

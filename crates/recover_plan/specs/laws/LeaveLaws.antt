@@ -1,5 +1,5 @@
 -- The end of a `leave`: the own slot is freed, and the own key is taken off.
-use Rattle.std.proofs.Common.{◌≡◌, ◌<◌, ◌==◌, ◌∙◌, ℕ, List, None, Option, Some, true, false, refl, ap, sym, subst, inl, inr}
+use Rattle.std.proofs.Common.{◌≡◌, ◌<◌, ◌==◌, ◌∙◌, ℕ, List, None, Option, Some, true, false, refl, ap, sym, subst, inl, inr, arith}
 use Rattle.std.specs.Prelude.{Err, IfSome, Ok}
 use Rattle.std.specs.List.{list_any}
 use Rattle.std.proofs.lemmas.Bool.{cases_Bool}
@@ -247,6 +247,8 @@ module _ (v w : WorldView) (h : ℕ) (watch : List (Option Look)) (c : Consisten
           );
     };
     stands = (fence_stands, refl);
+    tables = λ keeps uncut. absurd keeps;
+    fewer = omega arith;
   }
 
   pub own_freed_came : Came h v w watch watch Unlock (More Fence)
@@ -317,6 +319,8 @@ module _ (v u w : WorldView) (h : ℕ) (watch : List (Option Look)) (own : Key) 
       owes = fence_owed;
     };
     stands = nothing_watched w h;
+    tables = λ keeps uncut. absurd keeps;
+    fewer = omega arith;
   }
 
 -- it was refused

@@ -26,7 +26,7 @@ use Rattle.disk_locks.specs.Consistent.{Consistent}
 use Rattle.disk_locks.specs.Others as locks'
 use Rattle.watch.specs.declared.watch.Look.{Look}
 use Rattle.watch.specs.Looks.{IsLook, count_of, look_at}
-use Rattle.host_facts.specs.Facts.Fact.{Given, RecordIs}
+use Rattle.host_facts.specs.Facts.Fact.{Given, RecordIs, TableIs}
 use Rattle.host_facts.specs.Others.{Others}
 use Rattle.host_facts.specs.SlotResults.{HasBeaten, HasSeen}
 use Rattle.host_facts.specs.Views.{WorldView}
@@ -46,6 +46,7 @@ use Rattle.plan_parts.specs.laws.CutCallLaws.{cut_written}
 use Rattle.plan_parts.specs.Steps.{IsReady}
 use Rattle.plan_parts.specs.laws.QuietCallLaws.{valid_now}
 use Rattle.plan_parts.specs.laws.TakenLaws.{others_locks}
+use Rattle.recover_plan.specs.KnownTables.{KeepsTables}
 use Rattle.recover_plan.specs.PlanSteps.{AreWatched, IsWatched, OpenNoted, OwesAnswer, RestsWith}
 use Rattle.recover_plan.specs.SlotTurns.{at_look, look_answer}
 use Rattle.recover_plan.specs.laws.SlotEndings.{seen_slot, taken_key}
@@ -97,6 +98,9 @@ module _ (v w : WorldView) (h : ℕ) (c : Consistent v.locks) (later : Consisten
           by = beaten.facts (Given (slot_by look.slot)) was.by;
         }
 
+    pub beat_tables : KeepsTables h v w
+    beat_tables t p = beaten.facts (TableIs t p)
+
     -- a beat
     pub beat_owes : OwesAnswer commands.Beat h v w Fine (OpenNoted commands.Beat h v watch) (RestsWith h w watch)
     beat_owes = record {
@@ -115,6 +119,9 @@ module _ (v w : WorldView) (h : ℕ) (c : Consistent v.locks) (later : Consisten
 
     pub look_ready : IsReady w h
     look_ready = ready_same v w h did.0.geometry did.0.mine (seen_now.looks.facts (RecordIs [])) ready
+
+    pub look_tables : KeepsTables h v w
+    look_tables t p = seen_now.looks.facts (TableIs t p)
 
     -- what is remembered of the other hosts stays
     kept : (k : ℕ) → k ≢ of → look_at after k ≡ look_at watch k

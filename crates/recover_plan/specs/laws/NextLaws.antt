@@ -1,5 +1,5 @@
 -- A step that was refused is answered as a cut, or did nothing where there was no memory.
-use Rattle.std.proofs.Common.{◌≡◌, ◌≢◌, ◌≤◌, ◌∙◌, ℕ, List, None, Option, Some, refl, ap, sym, subst}
+use Rattle.std.proofs.Common.{◌≡◌, ◌≢◌, ◌≤◌, ◌∙◌, ℕ, List, None, Option, Some, refl, ap, sym, subst, ◌<◌}
 use Rattle.vol_base.specs.declared.answer.Answer.TheVariants.{Cut}
 use Rattle.vol_base.specs.declared.answer.CutBy.{CutBy}
 use Rattle.lock_store.specs.declared.answers.StepNo.{StepNo}
@@ -11,13 +11,16 @@ use Rattle.watch.specs.Looks.{count_of, look_at, nothing}
 use Rattle.host_facts.specs.Views.{WorldView}
 use Rattle.host_runs.specs.Notes.{Notes}
 use Rattle.plan_parts.specs.Cuts.{IsCutBy, cut_by}
-use Rattle.recover_plan.specs.Nexts.{IsUntouched, MayStop}
-use Rattle.recover_plan.specs.Plans.{Agrees, Came, PlanStands, StandsAt, command_of}
+use Rattle.recover_plan.specs.CallsLeft.{calls_left}
+use Rattle.recover_plan.specs.KnownTables.{TablesStay}
+use Rattle.recover_plan.specs.Nexts.{MayStop}
+use Rattle.recover_plan.specs.Plans.{Agrees, Came, PlanStands, StandsAt, command_of, later_of}
 use Rattle.recover_plan.specs.SlotTurns.{IsOnSlot}
 use Rattle.recover_plan.specs.declared.plan.Come.TheVariants.{Answered}
 use Rattle.recover_plan.specs.declared.plan.Doing.{Doing}
 use Rattle.recover_plan.specs.declared.plan.Doing.TheVariants as doings
 use Rattle.recover_plan.specs.declared.replay.Going.TheVariants as goings
+use Rattle.recover_plan.specs.laws.CallsLeftLaws.{calls_some}
 use Rattle.recover_plan.specs.laws.CutSteps.{MayBeCut, cut_owes}
 use Rattle.recover_plan.specs.laws.RegisterLaws.{nothing_watched}
 use Rattle.recover_plan.specs.laws.StageLaws.{base_of}
@@ -26,7 +29,7 @@ use Rattle.std.specs.Prelude.{IfErr, Result}
 use Rattle.recover_plan.specs.declared.plan.Come.{Come}
 use Rattle.vol_base.specs.declared.answer.Step.{Step}
 use Rattle.plan_parts.specs.Steps.{OwesStep}
-use Rattle.recover_plan.specs.Nexts.{HasStepped, later_of}
+use Rattle.recover_plan.specs.Nexts.{HasStepped}
 use Rattle.recover_plan.specs.Plans.{Behind, step_of}
 
 -- each plan is of a command on slots
@@ -115,12 +118,9 @@ module _ (v : WorldView) (h : ℕ) (watch : List (Option Look)) (c : Consistent 
     owes = cut_owes (command_of doing) v w h why by (Agrees h v watch doing) (on_slot doing) c
         (key_some doing stands.at (asks_no_key doing why by may is)) is (cut_says doing why stands.at may) cut;
     stands = nothing_watched w h;
+    tables = λ keeps uncut. absurd (uncut by refl);
+    fewer = calls_some v h doing (λ ended. subst (λ (d : Doing). StandsAt v h watch d) ended stands.at);
   }
-
--- or nothing was done
-pub stopped_untouched : (v w : WorldView) (h : ℕ) (watch : List (Option Look)) (doing : Doing)
-    → IsCutBy (command_of doing) h v w steps.NoMemory (Agrees h v watch doing) → IsUntouched h v w
-stopped_untouched v w h watch doing (e, cut) = record { state = cut.state; geometry = cut.geometry; memory = cut.same refl }
 
 -- what cuts a step cuts the plan that is at this step
 pub cut_at : (v w : WorldView) (h : ℕ) (watch : List (Option Look)) (doing at : Doing) (result : Result Come StepNo) → doing ≡ at
@@ -140,4 +140,6 @@ has_stepped h v w watch after doing was later come step is step_is later_is came
       later_is = later_is;
       owes = subst (λ (s : Step). OwesStep (command_of was) h v w s (Agrees h v watch was) (Behind h w after come)) (sym step_is) now.owes;
       stands = now.stands;
+      tables = subst (λ (s : Step). TablesStay h v w (command_of was) s) (sym step_is) now.tables;
+      fewer = subst (λ (d : Doing). calls_left w h d < calls_left v h was) (sym later_is) now.fewer;
     }

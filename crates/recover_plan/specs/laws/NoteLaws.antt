@@ -22,6 +22,7 @@ use Rattle.host_facts.specs.Views.{WorldView}
 use Rattle.host_notes.specs.Remembered.{IsRemembered, RemembersCall}
 use Rattle.plan_parts.specs.QuietCalls.{Noting}
 use Rattle.recover_plan.specs.RecoverNotes.{AreFrom, GoingNoted, IsUnderWay, MayTakeOff, Recovers, StageNoted, dead_of, key_found}
+use Rattle.recover_plan.specs.Replays.{SeesBehind, SeesSlot}
 use Rattle.recover_plan.specs.declared.replay.Going.{Going}
 use Rattle.recover_plan.specs.declared.replay.Going.TheVariants as goings
 use Rattle.recover_plan.specs.declared.replay.Replay.{Replay}
@@ -60,6 +61,18 @@ abbrev pub IsOf : ℕ → Going → Type 0
 IsOf dead (goings.More stage) = dead_of stage ≡ Some dead
 IsOf dead (goings.Found from found) = ⊥
 IsOf dead (goings.Ready key) = key.0 ≡ dead
+
+-- a slot that is claimed is no more to be claimed
+sees_claimed : (w : WorldView) (h of dead : ℕ) (stage : Replay) → dead_of stage ≡ Some dead → SeesSlot w h of stage
+sees_claimed w h of dead (stages.Fence slot) is = absurd cc
+sees_claimed w h of dead (stages.FenceBy slot) is = absurd cc
+sees_claimed w h of dead (stages.Claim slot) is = absurd cc
+sees_claimed w h of dead stage is = tt
+
+pub claimed_sees : (w : WorldView) (h of dead : ℕ) (going : Going) → IsOf dead going → SeesBehind w h of going
+claimed_sees w h of dead (goings.More stage) is = sees_claimed w h of dead stage is
+claimed_sees w h of dead (goings.Found from found) is = absurd is
+claimed_sees w h of dead (goings.Ready key) is = tt
 
 may_claimed : (command : Command) (h own dead : ℕ) (watch : List (Option Look)) (stage : Replay) → dead_of stage ≡ Some dead
     → MayTakeOff command h own watch stage

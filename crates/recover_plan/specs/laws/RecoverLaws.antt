@@ -28,8 +28,6 @@ use Rattle.host_notes.specs.lemmas.Words.{slot_says, slot_shows}
 use Rattle.host_runs.specs.Words.{by_in, key_in, state_in}
 use Rattle.host_runs.specs.lemmas.OrderlyPlaced.{some_same}
 use Rattle.slot_lock_blocks.specs.laws.SlotLaws.{slot_numbers}
-use Rattle.host_facts.specs.Knows.{Knows}
-use Rattle.host_facts.specs.Facts.Fact.{Off}
 use Rattle.host_notes.specs.FileTurns.{IsResting, going_on}
 use Rattle.host_notes.specs.Owes.{Owes, plan_moment}
 use Rattle.host_notes.specs.Remembered.{IsRemembered}
@@ -54,6 +52,7 @@ use Rattle.recover_plan.specs.declared.plan.Come.{Come}
 use Rattle.recover_plan.specs.declared.plan.Come.TheVariants.{More}
 use Rattle.recover_plan.specs.declared.plan.Doing.TheVariants.{Again}
 use Rattle.recover_plan.specs.laws.SlotOwes.{owes_alive, owes_freed, owes_recover_busy, recover_goes_on, slot_goes_on}
+use Rattle.recover_plan.specs.laws.StageLaws.{again_seen}
 use Rattle.recover_plan.specs.laws.StepLaws.{agrees_on, at_rest_ready, quiet_slot_turn, ready_key, ready_rests}
 
 module _ (v w : WorldView) (h of : ℕ) (watch : List (Option Look)) (k : ℕ) (stage : Replay) (going : Going) (c : Consistent v.locks)
@@ -265,33 +264,8 @@ module _ (v w : WorldView) (h of : ℕ) (watch after : List (Option Look)) (k : 
           w.locks.disk claim n noted.under_way.asks (again_noted _ (shown_quiet.noted n noted)),
     )
 
-    same_key_of : (s : Slot) → IsSameLive from s → slot_key s ≡ slot_key from
-    same_key_of slots.Free live = absurd live
-    same_key_of (slots.Live key beat) live = sym live
-    same_key_of (slots.Recovering key by) live = absurd live
-
-    no_by : (s : Slot) → IsSameLive from s → slot_by s ≡ 0
-    no_by slots.Free live = refl
-    no_by (slots.Live key beat) live = refl
-    no_by (slots.Recovering key by) live = absurd live
-
     pub again_stands : Stands w h of (Claim found)
-    again_stands =
-        let key = same_key_of found same in (
-          record {
-            base = went.stands.base;
-            unclaimed = went.stands.unclaimed;
-            spelled = went.stands.spelled;
-            some = λ none. went.stands.some (sym key ∙ none);
-            other = λ own. went.stands.other (sym key ∙ own);
-            shown = went.stands.shown;
-            by = went.stands.by;
-          },
-          record {
-            shown = subst (λ (x : ℕ). Knows w h (Off x)) (sym key) went.stands.off;
-            by = λ some. absurd (some (no_by found same));
-          },
-        )
+    again_stands = again_seen w h of from found went.stands same
 
   -- the command is answered
   module _ (again : Bool) (count : k ≡ claims_before again) (other : (again ≡ false) → IsSameLive from found → ⊥)

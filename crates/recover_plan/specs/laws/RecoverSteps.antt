@@ -1,5 +1,5 @@
 -- The steps of a `recover`.
-use Rattle.std.proofs.Common.{◌≡◌, ◌≢◌, ◌<◌, ℕ, List, None, Option, Some, Bool, true, false, refl, ap, sym, subst, ◌∙◌, inl, inr}
+use Rattle.std.proofs.Common.{◌≡◌, ◌≢◌, ◌<◌, ℕ, List, None, Option, Some, Bool, true, false, refl, ap, sym, subst, ◌∙◌, inl, inr, ◌+◌, arith}
 use Rattle.vol_base.specs.declared.block.Key.{Key}
 use Rattle.vol_base.specs.declared.command.Command.{Command}
 use Rattle.vol_base.specs.declared.command.Command.TheVariants as commands
@@ -20,6 +20,10 @@ use Rattle.host_notes.specs.Owes.{Owes}
 use Rattle.plan_parts.specs.Cuts.{IsCutBy}
 use Rattle.plan_parts.specs.Steps.{OwesStep, ended_of}
 use Rattle.recover_plan.specs.PlanSteps.{AreWatched, IsWatched}
+use Rattle.host_facts.specs.Facts.{locks_of}
+use Rattle.recover_plan.specs.CallsLeft.{calls_left}
+use Rattle.recover_plan.specs.laws.CallsLeftLaws.{claims_more, claims_some, recovery_left, some_left}
+use Rattle.recover_plan.specs.Stages.{steps_left}
 use Rattle.recover_plan.specs.Plans.{Agrees, Behind, Came, IsRecovering, PlanStands, command_of, step_of}
 use Rattle.recover_plan.specs.Recoveries.{FoundTo, IsSameLive, RecoverTo, claims_before, found_answer, recovery}
 use Rattle.recover_plan.specs.Recoveries.FoundTo.{Answers, ClaimsAgain}
@@ -66,6 +70,29 @@ module _ (v w : WorldView) (h of : ℕ) (watch : List (Option Look)) (again : Bo
   is : IsRecovering v h of watch
   is = (stands_so h of v watch again stage stands).0
 
+  some : 0 < steps_left v.locks.geometry stage
+  some = some_left v h of stage (stands_so h of v watch again stage stands).1
+
+  -- fewer steps are left
+  more_nearer : (next : Replay) → steps_left v.locks.geometry next < steps_left v.locks.geometry stage
+      → calls_left w h (recovery of again next) < calls_left v h (recovery of again stage)
+  more_nearer next less =
+      rw (recovery_left w h of again next, recovery_left v h of again stage)
+      (subst (λ (g : Geometry). steps_left g next + claims_more g again < steps_left v.locks.geometry stage + claims_more v.locks.geometry again)
+      (sym others.locks.lasts.geometry) (omega (arith, less)))
+
+  again_nearer : (found : Slot) → again ≡ false → calls_left w h (Again of (Claim found)) < calls_left v h (recovery of again stage)
+  again_nearer found first =
+      rw (recovery_left v h of again stage, first)
+      (subst (λ (g : Geometry). steps_left g (Claim found) + 1 < steps_left v.locks.geometry stage + (locks_of v.locks.geometry + 20))
+      (sym others.locks.lasts.geometry) (omega (arith, some)))
+
+  ready_nearer : 1 < calls_left v h (recovery of again stage)
+  ready_nearer = let more = claims_some v.locks.geometry again in rw (recovery_left v h of again stage) (omega (arith, some, more))
+
+  answer_nearer : 0 < calls_left v h (recovery of again stage)
+  answer_nearer = rw (recovery_left v h of again stage) (omega (arith, some))
+
   -- what is owed of a step that made this call
   stepped : (after : List (Option Look)) (come : Come) (e : Event) → (step_of come).called ≡ true → (step_of come).placed ≡ None
       → ((n : Notes) → StageNoted (commands.Recover of) h of watch (claims_before again) v stage n
@@ -98,6 +125,8 @@ module _ (v w : WorldView) (h of : ℕ) (watch : List (Option Look)) (again : Bo
           (watched_on v w h of watch (claims_before again) stage (goings.More next) c later is went stands.watched),
       recovers_it of again next ∙ sym (recovers_it of again stage),
     );
+    tables = λ keeps uncut. went.tables;
+    fewer = more_nearer next went.fewer;
   }
 
   ready_came : (dead : Key) → Went h of v w stage (goings.Ready dead) → Came h v w watch watch (recovery of again stage) (More (Free of dead))
@@ -112,6 +141,8 @@ module _ (v w : WorldView) (h of : ℕ) (watch : List (Option Look)) (again : Bo
       },
       sym (recovers_it of again stage),
     );
+    tables = λ keeps uncut. went.tables;
+    fewer = ready_nearer;
   }
 
   -- a claim that found a slot: the watch behind the answer
@@ -152,6 +183,8 @@ module _ (v w : WorldView) (h of : ℕ) (watch : List (Option Look)) (again : Bo
           },
           sym (recovers_it of again stage),
         );
+        tables = λ keeps uncut. went.tables;
+        fewer = again_nearer found first;
       }
 
   -- it is answered
@@ -164,18 +197,24 @@ module _ (v w : WorldView) (h of : ℕ) (watch : List (Option Look)) (again : Bo
         (answer_owes v w h of watch after (claims_before again) from found c later is stage (stands_so h of v watch again stage stands).1 went
         again refl other kept looked slots.Free is');
     stands = watched_found from found after went kept looked;
+    tables = λ keeps uncut. went.tables;
+    fewer = answer_nearer;
   }
   answer_came from found after other kept looked went (slots.Live key beat) is' = record {
     owes = stepped after (found_answer (slots.Live key beat)) _ refl refl
         (answer_owes v w h of watch after (claims_before again) from found c later is stage (stands_so h of v watch again stage stands).1 went
         again refl other kept looked (slots.Live key beat) is');
     stands = watched_found from found after went kept looked;
+    tables = λ keeps uncut. went.tables;
+    fewer = answer_nearer;
   }
   answer_came from found after other kept looked went (slots.Recovering key by) is' = record {
     owes = stepped after (found_answer (slots.Recovering key by)) _ refl refl
         (answer_owes v w h of watch after (claims_before again) from found c later is stage (stands_so h of v watch again stage stands).1 went
         again refl other kept looked (slots.Recovering key by) is');
     stands = watched_found from found after went kept looked;
+    tables = λ keeps uncut. went.tables;
+    fewer = answer_nearer;
   }
 
   found_came : (from found : Slot) (after : List (Option Look)) (come : Come) → Went h of v w stage (goings.Found from found)

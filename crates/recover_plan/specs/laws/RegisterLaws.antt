@@ -1,5 +1,5 @@
 -- The first step of a `join`: a key is given.
-use Rattle.std.proofs.Common.{◌≡◌, ◌≢◌, ◌<◌, ℕ, List, None, Option, Some, false, refl, ap, sym, subst, ◌∙◌, inl, inr, arith}
+use Rattle.std.proofs.Common.{◌≡◌, ◌≢◌, ◌<◌, ℕ, List, None, Option, Some, false, refl, ap, sym, subst, ◌∙◌, inl, inr, arith, ◌+◌}
 use Rattle.std.specs.Prelude.{Err, Ok}
 use Rattle.std.proofs.Common.{replicate}
 use Rattle.std.proofs.lemmas.Bool.{cases_lt}
@@ -44,6 +44,7 @@ use Rattle.host_notes.specs.laws.OtherRights.{allowed_register}
 use Rattle.host_notes.specs.lemmas.Dropped.{no_claim}
 use Rattle.plan_parts.specs.laws.QuietCallLaws.{valid_now}
 use Rattle.plan_parts.specs.laws.TakenLaws.{others_locks}
+use Rattle.host_facts.specs.Facts.{locks_of}
 use Rattle.recover_plan.specs.Plans.{Came, IsEntering, PlanStands, TriesNoted}
 use Rattle.recover_plan.specs.declared.plan.Come.TheVariants.{Answered, More}
 use Rattle.recover_plan.specs.declared.plan.Doing.TheVariants.{Enter, Register}
@@ -79,7 +80,7 @@ module _ (v w : WorldView) (h : ℕ) (watch : List (Option Look)) (key : Key) (c
   none : (host_at v.locks h).key ≡ None
   none = ap (λ (m : HostState). m.key) stands.at ∙ no_key
 
-  entering : IsEntering w h
+  pub entering : IsEntering w h
   entering =
       let below = subst (λ (g : Geometry). h < g.hosts) (sym did.geometry) stands.host in record {
         base = record {
@@ -152,6 +153,8 @@ module _ (v w : WorldView) (h : ℕ) (watch : List (Option Look)) (key : Key) (c
       },
       refl,
     );
+    tables = λ keeps uncut. absurd keeps;
+    fewer = subst (λ (g : Geometry). locks_of g + 23 < locks_of v.locks.geometry + 24) (sym did.geometry) (omega arith);
   }
 
 -- a watch that remembers nothing
@@ -198,6 +201,8 @@ no_keys_came v w h watch c later others standing did stands = record {
         );
   };
   stands = nothing_watched w h;
+  tables = λ keeps uncut. absurd keeps;
+  fewer = omega arith;
 }
 
 -- the device failed: the host is down still
@@ -237,6 +242,8 @@ register_failed_came v w h watch c later others standing did stands = record {
         );
   };
   stands = nothing_watched w h;
+  tables = λ keeps uncut. absurd keeps;
+  fewer = omega arith;
 }
 
 -- there was no memory for the call

@@ -42,7 +42,7 @@ use Rattle.watch.specs.declared.watch.Look.{Look}
 use Rattle.host_runs.specs.NotedCalls.{SwapsKind}
 use Rattle.host_runs.specs.Tries.{Tries}
 use Rattle.host_facts.specs.Calls.{FitsJournal, FitsTable, ReadsJournal, ReadsTable}
-use Rattle.host_facts.specs.Facts.Fact.{DeadRecord, Given, RecordIs}
+use Rattle.host_facts.specs.Facts.Fact.{DeadRecord, Given, RecordIs, TableIs}
 use Rattle.host_facts.specs.Knows.{Knows}
 use Rattle.host_facts.specs.Looks.{Looks}
 use Rattle.host_facts.specs.Others.{Others}
@@ -68,8 +68,11 @@ use Rattle.recover_plan.specs.declared.replay.Going.{Going}
 use Rattle.recover_plan.specs.declared.replay.Going.TheVariants as goings
 use Rattle.recover_plan.specs.declared.replay.Replay.{Replay}
 use Rattle.recover_plan.specs.declared.replay.Replay.TheVariants as stages
-use Rattle.recover_plan.specs.laws.ClaimLaws.{all_get, claim_kept, claimed_some, due_replay, edit_at, edit_get, some_locks, swept_none}
-use Rattle.recover_plan.specs.laws.NoteLaws.{IsOf, claimed_noting}
+use Rattle.recover_plan.specs.laws.ClaimLaws.{all_get, claim_kept, claimed_some, claims_slot, due_replay, edit_at, edit_get, some_locks, swept_none}
+use Rattle.recover_plan.specs.KnownTables.{KeepsTables}
+use Rattle.recover_plan.specs.laws.KnownTableLaws.{tables_replayed}
+use Rattle.recover_plan.specs.laws.NoteLaws.{IsOf, claimed_noting, claimed_sees}
+use Rattle.recover_plan.specs.laws.StepLaws.{slots_same, slots_written}
 use Rattle.recover_plan.specs.laws.StageLaws.{claim_on, ready_on, ready_still, replaying_on}
 
 module _ (v w : WorldView) (h of : ℕ) (dead : Key) (is : Consistent v.locks) (others : Others h v w) where
@@ -135,6 +138,9 @@ module _ (v w : WorldView) (h of : ℕ) (dead : Key) (is : Consistent v.locks) (
         no_entry = λ old key swaps. no_read (kinds.Journal of) _ old _ swaps;
         key = ap key_of looks.memory;
         given = λ x. looks.facts (Given x);
+        tables = λ t p. looks.facts (TableIs t p);
+        slots = slots_same v w of (ap (λ (s : State). s.told) looks.state);
+        sees = λ there. claimed_sees w h of dead.0 (goings.More (behind_journal dead entry)) (of_dead entry);
         ready = ready_still v w h of looks.geometry looks.memory looks.facts;
         quiet = λ command watch k recovers.
             read_quiet command watch k (stages.Journal dead) (goings.More (behind_journal dead entry)) (kinds.Journal of)
@@ -187,6 +193,9 @@ module _ (v w : WorldView) (h of : ℕ) (dead : Key) (is : Consistent v.locks) (
         no_entry = λ old key swaps. no_read (kinds.Table which) _ old _ swaps;
         key = ap key_of looks.memory;
         given = λ x. looks.facts (Given x);
+        tables = λ t p. looks.facts (TableIs t p);
+        slots = slots_same v w of (ap (λ (s : State). s.told) looks.state);
+        sees = λ there. tt;
         ready = ready_still v w h of looks.geometry looks.memory looks.facts;
         quiet = λ command watch n recovers.
             read_quiet command watch n (stages.Read dead entry k) (goings.More (stages.Write dead entry k (made which entry.edits table)))
@@ -303,6 +312,13 @@ module _ (v w : WorldView) (h of : ℕ) (dead : Key) (is : Consistent v.locks) (
             (omega (arith, replaying.more)))
       ])
     where
+      tables : KeepsTables h v w
+      tables =
+          let first = edit_get entry.edits k replaying.more in
+          let e = edit_at entry.edits k in
+          tables_replayed v w h of entry.edits e which (packed_bytes 4 kept) is (claims_slot v h of dead.0 replaying.claimed)
+          replaying.known (touches-at entry.edits k e first) (sym (at e first)) wrote
+
       went : (s : Replay) → IsOf dead.0 (goings.More s) → Stands w h of s
           → steps_left v.locks.geometry s < steps_left v.locks.geometry (stages.Write dead entry k kept)
           → Went h of v w (stages.Write dead entry k kept) (goings.More s)
@@ -315,6 +331,9 @@ module _ (v w : WorldView) (h of : ℕ) (dead : Key) (is : Consistent v.locks) (
         no_entry = λ old key swaps. no_write (kinds.Table which) _ old _ swaps;
         key = ap key_of wrote.memory;
         given = λ x. wrote.facts (Given x) tt;
+        tables = tables;
+        slots = slots_written v w of (kinds.Table which) (packed_bytes 4 kept) has (λ y ne is. cc) did.acts.changes;
+        sees = λ there. claimed_sees w h of dead.0 (goings.More s) of_dead;
         ready = record_still (kinds.Table which) (packed_bytes 4 kept) (λ e. cc) wrote;
         quiet = λ command watch n recovers.
             written_quiet command watch n (stages.Write dead entry k kept) (goings.More s) (kinds.Table which) (packed_bytes 4 kept) refl
@@ -339,6 +358,9 @@ module _ (v w : WorldView) (h of : ℕ) (dead : Key) (is : Consistent v.locks) (
     no_entry = λ old key swaps. no_write (kinds.Journal of) _ old _ swaps;
     key = ap key_of wrote.memory;
     given = λ x. wrote.facts (Given x) tt;
+    tables = λ t p. wrote.facts (TableIs t p) (λ e. cc);
+    slots = slots_written v w of (kinds.Journal of) (journal_bytes 0 []) all.claimed.base.below (λ y ne is. cc) did.acts.changes;
+    sees = λ there. tt;
     ready = λ was. record_still (kinds.Journal of) (journal_bytes 0 [])
         (λ same. let own : h ≡ of = cc in true≢false (sym was.joined ∙ (all.claimed.base.apart (sym own)).0)) wrote was;
     quiet = λ command watch n recovers.

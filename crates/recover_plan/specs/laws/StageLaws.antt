@@ -1,5 +1,5 @@
 -- What stands before a step of a recovery stands over calls that leave the host what it has and knows: those of other hosts, too.
-use Rattle.std.proofs.Common.{◌≡◌, ◌≢◌, ◌<◌, ◌∙◌, ℕ, List, [], ap, sym, subst}
+use Rattle.std.proofs.Common.{◌≡◌, ◌≢◌, ◌<◌, ◌∙◌, ℕ, List, [], ap, sym, subst, refl}
 use Rattle.std.specs.Prelude.{slice_index_or}
 use Rattle.vol_base.specs.Packing.{Packing}
 use Rattle.vol_layout.specs.declared.field.Edit.{Edit}
@@ -26,6 +26,8 @@ use Rattle.host_facts.specs.laws.DoneLaws.{entered_kept}
 use Rattle.plan_parts.specs.Steps.{IsReady}
 use Rattle.recover_plan.specs.Replaying.{HasClaim, IsAllReplayed, IsDue, IsRecoverer, IsReplaying, IsSwept}
 use Rattle.recover_plan.specs.Stages.{HasFound, IsSeen, Stands, StandsBehind}
+use Rattle.slot_lock_blocks.specs.declared.slot.Slot.TheVariants as slots
+use Rattle.recover_plan.specs.Recoveries.{IsSameLive}
 use Rattle.recover_plan.specs.declared.replay.Going.{Going}
 use Rattle.recover_plan.specs.declared.replay.Going.TheVariants as goings
 use Rattle.recover_plan.specs.declared.replay.Replay.{Replay}
@@ -184,3 +186,33 @@ module _ (v w : WorldView) (h of x : ℕ) (others : Others x v w) (apart : h ≢
 
   pub stands_still : (stage : Replay) → Stands v h of stage → Stands w h of stage
   stands_still stage = behind_still (goings.More stage)
+
+-- a live slot that a claim found with the key that it was made from may be claimed in its turn: that key is off
+same_key : (from s : Slot) → IsSameLive from s → slot_key s ≡ slot_key from
+same_key from slots.Free live = absurd live
+same_key from (slots.Live key beat) live = sym live
+same_key from (slots.Recovering key by) live = absurd live
+
+no_by : (from s : Slot) → IsSameLive from s → slot_by s ≡ 0
+no_by from slots.Free live = refl
+no_by from (slots.Live key beat) live = refl
+no_by from (slots.Recovering key by) live = absurd live
+
+pub again_seen : (w : WorldView) (h of : ℕ) (from found : Slot) → HasFound w h of from found → IsSameLive from found
+    → Stands w h of (stages.Claim found)
+again_seen w h of from found is same =
+    let key = same_key from found same in (
+      record {
+        base = is.base;
+        unclaimed = is.unclaimed;
+        spelled = is.spelled;
+        some = λ none. is.some (sym key ∙ none);
+        other = λ own. is.other (sym key ∙ own);
+        shown = is.shown;
+        by = is.by;
+      },
+      record {
+        shown = subst (λ (x : ℕ). Knows w h (Off x)) (sym key) is.off;
+        by = λ some. absurd (some (no_by from found same));
+      },
+    )

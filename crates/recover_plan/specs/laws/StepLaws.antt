@@ -20,7 +20,7 @@ use Rattle.lock_store.specs.declared.answers.StepNo.{StepNo}
 use Rattle.lock_store.specs.declared.host.HostState.{HostState}
 use Rattle.lock_store.specs.Events.{Did}
 use Rattle.lock_store.specs.Memories.{holds}
-use Rattle.lock_store.specs.Views.{counter_of, host_at, key_at, told_of}
+use Rattle.lock_store.specs.Views.{counter_of, host_at, key_at, told_of, keys_of}
 use Rattle.disk_locks.specs.Consistent.{Consistent}
 use Rattle.host_facts.specs.Facts.Fact.{RecordIs}
 use Rattle.host_facts.specs.Knows.{Knows}
@@ -42,6 +42,20 @@ use Rattle.plan_parts.specs.QuietCalls.{QuietCall}
 use Rattle.plan_parts.specs.Steps.{IsAtRest, IsReady}
 use Rattle.plan_parts.specs.laws.TakenLaws.{none_held}
 use Rattle.plan_parts.specs.laws.TurnLaws.{given_no_refusal, no_places}
+use Rattle.shared_disk.specs.State.{Told}
+use Rattle.std.specs.Prelude.{Contains, IfSome}
+use Rattle.vol_layout.specs.declared.kind.Kind.TheVariants as kinds
+use Rattle.image_view.specs.Images.{block_at}
+use Rattle.slot_lock_blocks.specs.declared.slot.Slot.{Slot}
+use Rattle.slot_lock_blocks.specs.Slots.{slot_bytes}
+use Rattle.recover_plan.specs.Replays.{IsThere, SlotsStay}
+use Rattle.host_facts.specs.laws.ToldLaws.{both_of, both_same, both_written}
+use Rattle.image_view.specs.laws.FrameLaws.{write_only}
+use Rattle.shared_disk.specs.Calls.{after_write}
+use Rattle.std.specs.Prelude.{List, slice_set}
+use Rattle.vol_layout.specs.Places.{place_of}
+use Rattle.vol_layout.specs.Ranges.{HasKind}
+use Rattle.vol_layout.specs.declared.kind.Kind.{Kind}
 use Rattle.recover_plan.specs.SlotTurns.{IsOnSlot, SlotTurn}
 
 -- a world whose locks alone changed
@@ -196,3 +210,30 @@ cut_stronger command v w h why Before Now says (e, cut) = (
     allowed = λ m turn of before. cut.allowed m turn of (says m.old before);
   },
 )
+
+-- a slot stands there still, where the host's key is as before and was registered, and the same is told
+pub there_on : (v w : WorldView) (h of : ℕ) (slot : Slot) → w.locks.geometry ≡ v.locks.geometry → key_at w.locks h ≡ key_at v.locks h
+    → Contains (keys_of v.locks) (key_at v.locks h) → told_of w.locks ≡ told_of v.locks → IsThere v h of slot → IsThere w h of slot
+there_on v w h of slot geometry key registered told there here =
+    subst (λ (g : Geometry). IfSome (told_of w.locks) (λ t. block_at g t.image (kinds.Slot of) ≡ slot_bytes slot)) (sym geometry)
+    (subst (λ (o : Option Told). IfSome o (λ t. block_at v.locks.geometry t.image (kinds.Slot of) ≡ slot_bytes slot)) (sym told)
+    (there registered))
+
+-- what cannot be told is not told
+pub none_told : (told : Option Told) → IfSome told (λ t. ⊥) → told ≡ None
+none_told None never = refl
+none_told (Some t) never = absurd never
+
+-- the slots of other hosts are as before where the same is told, and where a block of another kind is written
+pub slots_same : (v w : WorldView) (of : ℕ) → told_of w.locks ≡ told_of v.locks → SlotsStay v w of
+slots_same v w of told = both_same (told_of v.locks) (told_of w.locks) _ told (λ image y below ne. refl)
+
+pub slots_written : (v w : WorldView) (of : ℕ) (kind : Kind) (block : List ℕ) → HasKind v.locks.geometry kind
+    → ((y : ℕ) → y ≢ of → kinds.Slot y ≢ kind)
+    → w.locks.disk.state ≡ after_write (place_of v.locks.geometry kind) block v.locks.disk.state → SlotsStay v w of
+slots_written v w of kind block has apart wrote =
+    let g = v.locks.geometry in
+    both_of (told_of v.locks) (told_of w.locks) (λ i j. j ≡ slice_set i (place_of g kind) block) _
+    (both_written v.locks.disk.state w.locks.disk.state (place_of g kind) block wrote)
+    (λ i j now y below ne.
+    rw now (write_only g i kind block has (kinds.Slot y) below (apart y ne)))

@@ -45,7 +45,7 @@ use Rattle.host_notes.specs.FileTurns.{IsGiven}
 use Rattle.host_notes.specs.Remembered.{IsRemembered, RemembersCall}
 use Rattle.host_runs.specs.Memories.{Memory}
 use Rattle.vol_layout.specs.Fields.{resource_of}
-use Rattle.host_facts.specs.Facts.Fact.{Given}
+use Rattle.host_facts.specs.Facts.Fact.{Given, TableIs}
 use Rattle.host_notes.specs.laws.LockMemories.{remembered_clear, remembered_clear_found}
 use Rattle.host_notes.specs.laws.LockRights.{allowed_clear}
 use Rattle.host_notes.specs.laws.TryLaws.{BySwap, tried_file, tried_file_swept, tried_shared, tried_shared_kept}
@@ -56,13 +56,14 @@ use Rattle.plan_parts.specs.laws.QuietCallLaws.{quiet_call, valid_now}
 use Rattle.host_runs.specs.Notes.{Notes}
 use Rattle.recover_plan.specs.RecoverNotes.{Recovers}
 use Rattle.recover_plan.specs.Replaying.{IsSwept}
-use Rattle.recover_plan.specs.Replays.{IsCutAt, IsShownBy, Went}
+use Rattle.shared_disk.specs.State.{State}
+use Rattle.recover_plan.specs.Replays.{IsCutAt, IsShownBy, SlotsStay, Went}
 use Rattle.recover_plan.specs.Stages.{AreFewer, StandsBehind, behind_sweep}
 use Rattle.recover_plan.specs.declared.replay.Going.{Going}
 use Rattle.recover_plan.specs.declared.replay.Going.TheVariants as goings
 use Rattle.recover_plan.specs.declared.replay.Replay.TheVariants as stages
-use Rattle.recover_plan.specs.laws.StepLaws.{locks_else}
-use Rattle.recover_plan.specs.laws.NoteLaws.{IsOf, claimed_noting, frees, no_try}
+use Rattle.recover_plan.specs.laws.StepLaws.{locks_else, slots_same, slots_written}
+use Rattle.recover_plan.specs.laws.NoteLaws.{IsOf, claimed_noting, frees, no_try, claimed_sees}
 use Rattle.recover_plan.specs.laws.ClaimLaws.{claimed_some, claims_slot}
 use Rattle.recover_plan.specs.laws.StageLaws.{ready_still, swept_on}
 
@@ -158,10 +159,12 @@ module _ (v w : WorldView) (h of : ℕ) (dead : Key) (k : ℕ) (r : Resource) (i
         → Went h of v w (stages.Sweep dead k) going
     went going of_dead stands fewer = elim did [
       | inl freed ↦
-          made Done freed tt (λ memory remembers. remembered_clear v.locks w.locks h memory remembers dead.0 r is has freed)
+          made Done freed tt
+          (slots_written v w of (kinds.Lock r) (lock_bytes words.Free) has (λ y ne is. cc) freed.acts.changes.1) (λ memory remembers. remembered_clear v.locks w.locks h memory remembers dead.0 r is has freed)
           (λ command recovers claims tries. freed_shown command r claims tries has)
       | inr found ↦
           made (Shows (lock_bytes found.0)) found.1.0 tt
+          (slots_same v w of (ap (λ (s : State). s.told) found.1.0.acts.changes.2))
           (λ memory remembers. remembered_clear_found v.locks w.locks h memory remembers dead.0 r found.0 found.1)
           (λ command recovers claims tries. found_shown command r (lock_bytes found.0) claims tries recovers has)
     ]
@@ -171,14 +174,14 @@ module _ (v w : WorldView) (h of : ℕ) (dead : Key) (k : ℕ) (r : Resource) (i
         not_found (goings.Found from found) of_dead e = absurd of_dead
         not_found (goings.Ready key) of_dead e = tt
 
-        made : (reply : Reply) → Did v.locks h (clear_call v.locks dead.0 r) reply (host_at v.locks h) w.locks → IsGiven reply
+        made : (reply : Reply) → Did v.locks h (clear_call v.locks dead.0 r) reply (host_at v.locks h) w.locks → IsGiven reply → SlotsStay v w of
             → ((memory : Memory) → IsRemembered v.locks.geometry memory (host_at v.locks h)
             → RemembersCall v.locks h memory (clear_call v.locks dead.0 r) reply w.locks)
             → ((command : Command) → Recovers command h of → (claims : List ℕ) (tries : Tries)
             → (tried v.locks.geometry h command claims (event (key_at v.locks h) (clear_call v.locks dead.0 r) reply) tries).shown
             ≡ tries.shown)
             → Went h of v w (stages.Sweep dead k) going
-        made reply call given remembers tries = record {
+        made reply call given slots remembers tries = record {
           event = event (key_at v.locks h) (clear_call v.locks dead.0 r) reply;
           shown = not_found going of_dead (event (key_at v.locks h) (clear_call v.locks dead.0 r) reply);
           stands = stands;
@@ -187,6 +190,9 @@ module _ (v w : WorldView) (h of : ℕ) (dead : Key) (k : ℕ) (r : Resource) (i
           no_entry = λ old key swaps. no_swap reply old _ swaps;
           key = ap key_of cleared.memory;
           given = λ x. cleared.facts (Given x);
+          tables = λ t p. cleared.facts (TableIs t p);
+          slots = slots;
+          sees = λ there. claimed_sees w h of dead.0 going of_dead;
           ready = ready_still v w h of cleared.passes.geometry cleared.memory cleared.facts;
           quiet = λ command watch n recovers.
               quiet_call command v w h (clear_call v.locks dead.0 r) reply (host_at v.locks h) _ _ call given others (valid_now w later)

@@ -34,6 +34,9 @@ use Rattle.plan_parts.specs.Steps.{IsReady}
 use Rattle.plan_parts.specs.declared.outcome.Outcome.TheVariants.{Open}
 use Rattle.plan_parts.specs.laws.QuietCallLaws.{quiet_unlock}
 use Rattle.plan_parts.specs.laws.TakenLaws.{others_locks}
+use Rattle.host_facts.specs.laws.GuardLaws.{hold_else, hold_is}
+use Rattle.recover_plan.specs.CallsLeft.{files_held}
+use Rattle.recover_plan.specs.laws.CallsLeftLaws.{held_less}
 use Rattle.recover_plan.specs.PlanSteps.{AreWatched, OpenNoted}
 use Rattle.recover_plan.specs.Plans.{Came, PlanStands}
 use Rattle.recover_plan.specs.declared.plan.Come.TheVariants.{More}
@@ -63,65 +66,79 @@ file_unedited v h f c ready below held = taken_unedited v.locks h (File f) c (re
 
 module _ (v w : WorldView) (h f : ℕ) (watch : List (Option Look)) (c : Consistent v.locks) (later : Consistent w.locks)
     (below : f < v.locks.geometry.files) (others : locks'.Others h v.locks w.locks) (standing : w.standing ≡ v.standing) (done : Unit)
-    (did : Unlocks v.locks h (File f) (Ok done) w.locks) (stands : PlanStands v h watch Unlock) where
-  relocks : Relocks h (File f) v w
-  relocks = subst (λ (x : WorldView). Relocks h (File f) v x) (locks_else v w standing) (unlocked_law v h w.locks c others (File f) below did).0
+    (did : Unlocks v.locks h (File f) (Ok done) w.locks) (stands : PlanStands v h watch Unlock) (held : holds (host_at v.locks h) (File f) ≡ true)
+  where
+    relocks : Relocks h (File f) v w
+    relocks = subst (λ (x : WorldView). Relocks h (File f) v x) (locks_else v w standing) (unlocked_law v h w.locks c others (File f) below did).0
 
-  unlock_ready : IsReady w h
-  unlock_ready = record {
-    joined = ap (λ (m : HostState). m.joined) did.mine ∙ stands.at.joined;
-    empty = relocks.facts (RecordIs []) (λ e. cc) stands.at.empty;
-    taking = record {
-      each = tt;
-      only = λ r has shared held. stands.at.taking.only r (subst (λ (g : Geometry). HasResource g r) did.geometry has) shared
-          (still_held f r (host_at v.locks h) (sym (ap (λ (m : HostState). holds m r) did.mine) ∙ held));
-    };
-  }
+    unlock_ready : IsReady w h
+    unlock_ready = record {
+      joined = ap (λ (m : HostState). m.joined) did.mine ∙ stands.at.joined;
+      empty = relocks.facts (RecordIs []) (λ e. cc) stands.at.empty;
+      taking = record {
+        each = tt;
+        only = λ r has shared held. stands.at.taking.only r (subst (λ (g : Geometry). HasResource g r) did.geometry has) shared
+            (still_held f r (host_at v.locks h) (sym (ap (λ (m : HostState). holds m r) did.mine) ∙ held));
+      };
+    }
 
-  unlock_watched : AreWatched w h watch
-  unlock_watched y look below' there =
-      let was = stands.watched y look (subst (λ (g : Geometry). y < g.hosts) did.geometry below') there in record {
-        spelled = was.spelled;
-        some = was.some;
-        of_host = was.of_host;
-        shown = relocks.facts (Given (slot_key look.slot)) (λ e. cc) was.shown;
-        by = relocks.facts (Given (slot_by look.slot)) (λ e. cc) was.by;
-      }
+    unlock_watched : AreWatched w h watch
+    unlock_watched y look below' there =
+        let was = stands.watched y look (subst (λ (g : Geometry). y < g.hosts) did.geometry below') there in record {
+          spelled = was.spelled;
+          some = was.some;
+          of_host = was.of_host;
+          shown = relocks.facts (Given (slot_key look.slot)) (λ e. cc) was.shown;
+          by = relocks.facts (Given (slot_by look.slot)) (λ e. cc) was.by;
+        }
 
-  abbrev freed : Event
-  freed = event (key_at v.locks h) (unlock_call v.locks (File f)) Done
+    abbrev freed : Event
+    freed = event (key_at v.locks h) (unlock_call v.locks (File f)) Done
 
-  quiet : QuietCall Leave h v w freed (Noted Leave h v Open) (Noted Leave h w Open)
-  quiet = quiet_unlock Leave v w h (File f) Open done c later below did (others_locks v w h c others standing) relocks.passes.files
+    quiet : QuietCall Leave h v w freed (Noted Leave h v Open) (Noted Leave h w Open)
+    quiet = quiet_unlock Leave v w h (File f) Open done c later below did (others_locks v w h c others standing) relocks.passes.files
 
-  unlock_owed : (n : Notes) → OpenNoted Leave h v watch n
-      → (rest : Notes) × Owes v.locks.geometry h Leave v.locks.disk w.locks.disk (Some freed) None None n rest × OpenNoted Leave h w watch rest
-  unlock_owed n noted =
-      let m = plan_moment v.locks.geometry h Leave v.locks.disk w.locks.disk (Some freed) None n in (
-        going_on m,
-        slot_goes_on v.locks.geometry h v.locks.disk w.locks.disk (Some freed) n Leave
-            (quiet_slot_turn Leave v w h freed n (Noted Leave h v Open) (Noted Leave h w Open) tt noted.noted.remembered
-            (ready_key v h c stands.at) noted.noted.placed_is noted.noted quiet)
-            tt refl (no_slot m None (inl refl)) (λ own is fenced. let call = fenced.0 in cc),
-        agrees_on (OpenNoted Leave h w watch) v.locks.geometry h Leave v.locks.disk w.locks.disk freed n noted.noted.asks
-            (record { noted = quiet.noted n noted.noted; watch_is = noted.watch_is }),
-      )
+    unlock_owed : (n : Notes) → OpenNoted Leave h v watch n
+        → (rest : Notes) × Owes v.locks.geometry h Leave v.locks.disk w.locks.disk (Some freed) None None n rest × OpenNoted Leave h w watch rest
+    unlock_owed n noted =
+        let m = plan_moment v.locks.geometry h Leave v.locks.disk w.locks.disk (Some freed) None n in (
+          going_on m,
+          slot_goes_on v.locks.geometry h v.locks.disk w.locks.disk (Some freed) n Leave
+              (quiet_slot_turn Leave v w h freed n (Noted Leave h v Open) (Noted Leave h w Open) tt noted.noted.remembered
+              (ready_key v h c stands.at) noted.noted.placed_is noted.noted quiet)
+              tt refl (no_slot m None (inl refl)) (λ own is fenced. let call = fenced.0 in cc),
+          agrees_on (OpenNoted Leave h w watch) v.locks.geometry h Leave v.locks.disk w.locks.disk freed n noted.noted.asks
+              (record { noted = quiet.noted n noted.noted; watch_is = noted.watch_is }),
+        )
 
-  pub unlock_came : Came h v w watch watch Unlock (More Unlock)
-  unlock_came = record {
-    owes = record {
-      made = Some freed;
-      called = refl;
-      others = others_locks v w h c others standing;
-      quiet = λ n noted. noted.noted.wants;
-      owes = unlock_owed;
-    };
-    stands = (
-      record {
-        host = subst (λ (g : Geometry). h < g.hosts) (sym did.geometry) stands.host;
-        at = unlock_ready;
-        watched = unlock_watched;
-      },
-      refl,
-    );
-  }
+    -- one file less is held
+    fewer_files : files_held (host_at w.locks h) w.locks.geometry.files < files_held (host_at v.locks h) v.locks.geometry.files
+    fewer_files =
+        let m = host_at v.locks h in
+        let off = hold_is v.locks.geometry (File f) false m c.geometry below (c.memories h).held in
+        let else_same = hold_else v.locks.geometry (File f) false m c.geometry below in
+        subst (λ (g : Geometry). files_held (host_at w.locks h) g.files < files_held m v.locks.geometry.files) (sym did.geometry)
+        (subst (λ (k : HostState). files_held k v.locks.geometry.files < files_held m v.locks.geometry.files) (sym did.mine)
+        (held_less m (with_hold (File f) false m) f v.locks.geometry.files below held off
+        (λ e inside other. else_same.holds_same (File e) inside (λ same. other (let one : e ≡ f = cc in one)))))
+
+    pub unlock_came : Came h v w watch watch Unlock (More Unlock)
+    unlock_came = record {
+      owes = record {
+        made = Some freed;
+        called = refl;
+        others = others_locks v w h c others standing;
+        quiet = λ n noted. noted.noted.wants;
+        owes = unlock_owed;
+      };
+      stands = (
+        record {
+          host = subst (λ (g : Geometry). h < g.hosts) (sym did.geometry) stands.host;
+          at = unlock_ready;
+          watched = unlock_watched;
+        },
+        refl,
+      );
+      tables = λ keeps uncut. absurd keeps;
+      fewer = omega (arith, fewer_files);
+    }

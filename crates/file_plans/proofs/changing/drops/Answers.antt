@@ -1,4 +1,5 @@
-use Rattle.std.proofs.Common.{arith, subst}
+use Rattle.std.proofs.Common.{subst}
+use Rattle.std.proofs.Common.{refl}
 use Rattle.vol_base.specs.declared.plain.PlainCall.TheVariants.{Punch}
 use Rattle.disk_locks.specs.Consistent.{Consistent}
 use Rattle.held_cache.specs.Kept.{kept_at}
@@ -8,9 +9,10 @@ use Rattle.file_plans.specs.declared.sight.Sight.TheVariants.{Drops}
 use Rattle.file_plans.specs.declared.stage.Change.TheVariants.{Drop}
 use Rattle.file_plans.specs.declared.stage.Stage.TheVariants as stages
 use Rattle.file_plans.specs.laws.ChangeSightLaws.{punched}
-use Rattle.file_plans.specs.laws.FewerLaws.{record_fewer}
 use Rattle.file_plans.specs.laws.WriteEndLaws.{cut_at, record_placed}
 use Rattle.file_plans.proofs.changing.drops.Goals as goal
+use Rattle.file_plans.specs.laws.TurnStepLaws.{placed_sooner, record_first}
+use Rattle.vol_base.specs.declared.plain.PlainReply.TheVariants.{Done}
 
 pub commit_drop-came-requires-clause-sight : goal.commit_drop-came-requires-clause-sight
 commit_drop-came-requires-clause-sight g c =
@@ -32,7 +34,11 @@ returns-in-Err-clause-cut g c =
     cut_at c.args.world.now c.commit_drop-came.new.world c.args.core.now (stages.Changes (Drop c.args.number) c.args.group) c.in-Err.why
     c.in-Err.ensures.cut
 
-pub returns-in-Ok-clause-less : goal.returns-in-Ok-clause-less
-returns-in-Ok-clause-less g c =
-    record_fewer c.args.world.now.locks.geometry (stages.Changes (Drop c.args.number) c.args.group) _ _ c.in-Ok.applying
-    c.in-Ok.ensures.went.order c.places.ensures.few c.places.ensures.stage (omega arith)
+pub returns-in-Ok-clause-sooner : goal.returns-in-Ok-clause-sooner
+returns-in-Ok-clause-sooner g c =
+    placed_sooner c.args.world.now c.commit_drop-came.new.world c.args.cache.now c.args.core.now _ (stages.Changes (Drop c.args.number)
+    c.args.group) _ _ c.in-Ok.applying Done
+    c.in-Ok.ensures.others.locks.lasts.geometry
+    c.in-Ok.ensures.went.order
+    c.places.ensures.few c.places.ensures.stage c.places.ensures.core
+    (record_first c.args.world.now c.args.cache.now c.args.core.now (stages.Changes (Drop c.args.number) c.args.group) refl)

@@ -11,6 +11,9 @@ use Rattle.file_plans.specs.laws.ChangeSightLaws.{change_has}
 use Rattle.file_plans.specs.laws.ChangeStageLaws.{change_fetched}
 use Rattle.file_plans.specs.laws.WriteEndLaws.{cut_at, went_as}
 use Rattle.file_plans.proofs.changing.fetches.Goals as goal
+use Rattle.file_plans.specs.laws.TurnStepLaws.{round_sooner}
+use Rattle.held_cache.specs.Kept.{kept_at}
+use Rattle.std.proofs.Common.{arith, refl}
 
 pub table_of-which-requires-clause-field : goal.table_of-which-requires-clause-field
 table_of-which-requires-clause-field g c =
@@ -34,3 +37,9 @@ returns-in-Ok-clause-went g c =
 pub returns-in-Err-clause-cut : goal.returns-in-Err-clause-cut
 returns-in-Err-clause-cut g c =
     cut_at c.args.world.now c.fetch-came.new.world c.args.core.now (stages.Fetches c.args.change) c.in-Err.why c.in-Err.ensures.cut
+
+pub returns-in-Ok-clause-sooner : goal.returns-in-Ok-clause-sooner
+returns-in-Ok-clause-sooner g c =
+    round_sooner c.args.world.now c.fetch-came.new.world c.args.cache.now c.args.core.now c.args.core.now (stages.Fetches c.args.change)
+    (stages.Changes c.args.change c.in-Ok.kept) _ (kept_at c.args.cache.now c.args.core.now.host) c.args.core.now.call
+    c.in-Ok.ensures.others.locks.lasts.geometry refl refl (omega arith)

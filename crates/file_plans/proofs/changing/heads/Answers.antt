@@ -5,6 +5,9 @@ use Rattle.file_plans.specs.declared.call.FileCall.TheVariants.{Plain}
 use Rattle.file_plans.specs.declared.stage.Stage.TheVariants as stages
 use Rattle.file_plans.specs.laws.WriteEndLaws.{cut_at, record_placed}
 use Rattle.file_plans.proofs.changing.heads.Goals as goal
+use Rattle.file_plans.specs.laws.TurnStepLaws.{placed_sooner}
+use Rattle.file_plans.specs.laws.TurnActLaws.{heads_start}
+use Rattle.vol_base.specs.declared.plain.PlainReply.TheVariants.{Done}
 
 pub returns-in-Ok-clause-went : goal.returns-in-Ok-clause-went
 returns-in-Ok-clause-went g c =
@@ -18,3 +21,11 @@ returns-in-Ok-clause-went g c =
 pub returns-in-Err-clause-cut : goal.returns-in-Err-clause-cut
 returns-in-Err-clause-cut g c =
     cut_at c.args.world.now c.commit_head-came.new.world c.args.core.now stages.Sees c.in-Err.why c.in-Err.ensures.cut
+
+pub returns-in-Ok-clause-sooner : goal.returns-in-Ok-clause-sooner
+returns-in-Ok-clause-sooner g c =
+    placed_sooner c.args.world.now c.commit_head-came.new.world c.args.cache.now c.args.core.now _ stages.Sees _ _ c.in-Ok.applying Done
+    c.in-Ok.ensures.others.locks.lasts.geometry
+    c.in-Ok.ensures.went.order
+    c.places.ensures.few c.places.ensures.stage c.places.ensures.core
+    (heads_start c.args.world.now c.args.cache.now c.args.core.now c.args.number c.requires.sight)

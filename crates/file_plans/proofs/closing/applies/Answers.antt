@@ -3,9 +3,9 @@ use Rattle.disk_locks.specs.Consistent.{Consistent}
 use Rattle.plan_parts.specs.Applies as apply
 use Rattle.file_plans.specs.declared.stage.Stage.TheVariants as stages
 use Rattle.file_plans.specs.laws.ApplyStageLaws.{record_finished, table_applied}
-use Rattle.file_plans.specs.laws.FewerLaws.{table_fewer}
 use Rattle.file_plans.specs.laws.WriteEndLaws.{cut_at, went_as}
 use Rattle.file_plans.proofs.closing.applies.Goals as goal
+use Rattle.file_plans.specs.laws.TurnKnownLaws.{finished_sooner, written_sooner}
 
 pub returns-in-Ok-Wrote-clause-went : goal.returns-in-Ok-Wrote-clause-went
 returns-in-Ok-Wrote-clause-went g c =
@@ -29,9 +29,17 @@ pub returns-in-Err-clause-cut : goal.returns-in-Err-clause-cut
 returns-in-Err-clause-cut g c =
     cut_at c.args.world.now c.next-came.new.world c.args.core.now (stages.Applies c.args.applying) c.in-Err.why c.in-Err.ensures.cut
 
-pub returns-in-Ok-Wrote-clause-less : goal.returns-in-Ok-Wrote-clause-less
-returns-in-Ok-Wrote-clause-less g c =
-    table_fewer c.args.core.now.host c.args.world.now c.next-came.new.world c.args.world.now.locks.geometry c.args.applying
-    c.next-came.new.self c.in-Ok-Wrote.kept _
+pub returns-in-Ok-Wrote-clause-sooner : goal.returns-in-Ok-Wrote-clause-sooner
+returns-in-Ok-Wrote-clause-sooner g c =
+    written_sooner c.args.world.now c.next-came.new.world c.args.cache.now c.keep.new.cache c.args.core.now c.args.applying
+    c.next-came.new.self c.in-Ok-Wrote.kept _ (subst Consistent c.locks.ensures c.geometry-geometry.ensures.consistent).geometry
+    c.requires.stands c.in-Ok-Wrote.ensures.entry
     (subst (apply.Went c.args.core.now.host c.args.world.now c.next-came.new.world c.args.applying.entry.edits c.args.applying.left
-    c.next-came.new.self.left) c.in-Ok-Wrote.field-0-is c.in-Ok-Wrote.ensures.went)
+    c.next-came.new.self.left) c.in-Ok-Wrote.field-0-is c.in-Ok-Wrote.ensures.went) c.keep.ensures
+
+pub returns-in-Ok-Finished-clause-sooner : goal.returns-in-Ok-Finished-clause-sooner
+returns-in-Ok-Finished-clause-sooner g c =
+    let did = subst (apply.Went c.args.core.now.host c.args.world.now c.next-came.new.world c.args.applying.entry.edits c.args.applying.left
+    c.next-came.new.self.left) c.in-Ok-Finished.field-0-is c.in-Ok-Finished.ensures.went in
+    finished_sooner c.args.world.now c.next-came.new.world c.args.cache.now c.args.core.now _ c.args.applying _ _
+    did.wrote.geometry c.requires.stands did.none refl c.rests.ensures.rest

@@ -2,7 +2,7 @@ use Rattle.std.proofs.Common.{refl, subst}
 use Rattle.disk_locks.specs.Consistent.{Consistent}
 use Rattle.held_cache.specs.Kept.{ForgetsHost}
 use Rattle.file_plans.specs.Plans.{IsRefused}
-use Rattle.file_plans.specs.laws.PlanLaws.{cut_steps, cut_untouched}
+use Rattle.file_plans.specs.laws.PlanLaws.{cut_steps, untouched}
 use Rattle.file_plans.proofs.plan.goes.Goals as goal
 
 pub returns-in-Ok-cut_step-clause-step : goal.returns-in-Ok-cut_step-clause-step
@@ -16,6 +16,6 @@ returns-in-Ok-cut_step-clause-step g c =
 
 pub returns-in-Err-cut_step-clause-none : goal.returns-in-Err-cut_step-clause-none
 returns-in-Err-cut_step-clause-none g c =
-    cut_untouched c.args.world.now c.steps.new.world c.args.core.now c.args.stage
+    untouched c.args.world.now c.steps.new.world c.args.core.now c.args.stage
     (subst (λ why. IsRefused c.args.world.now c.steps.new.world c.args.core.now c.args.stage why) (c.in-Err-cut_step.ensures.none refl)
     c.in-Err.ensures.cut)

@@ -14,6 +14,7 @@ use Rattle.file_plans.specs.declared.stage.Stage.TheVariants.{Over}
 use Rattle.file_plans.specs.declared.stage.Stage.TheVariants as stages
 use Rattle.file_plans.specs.laws.CloseLaws.{giving_went, kept_went, released_went}
 use Rattle.file_plans.proofs.releasing.gives_back.Goals as goal
+use Rattle.file_plans.specs.laws.TurnHoldLaws.{gives_sooner}
 
 -- what the step did, as it is matched
 matched : (h f e : ℕ) (v w : WorldView) (t : ReadTry) (did is_did : Taking ReadTry) → f ≡ e → did ≡ is_did → GivesBack h f v w t did
@@ -59,3 +60,10 @@ returns-in-Ok-Busy-clause-went g c =
 pub returns-in-Err-clause-cut : goal.returns-in-Err-clause-cut
 returns-in-Err-clause-cut g c command runs =
     c.in-Err.ensures.cut command (subst (λ f. ReleasesFile f command) (sym c.file-file.ensures) (subst (Runs command) c.requires.stands.2 runs))
+
+pub returns-in-Ok-More-clause-sooner : goal.returns-in-Ok-More-clause-sooner
+returns-in-Ok-More-clause-sooner g c =
+    let more = matched c.args.core.now.host c.file-file.result (file_of c.args.core.now.call) c.args.world.now c.give_back.new.world
+    c.args.taking c.in-Ok-More.field-0 (taking.More c.in-Ok-More.next) c.file-file.ensures c.in-Ok-More.field-0-is
+    c.in-Ok-More.ensures.went in
+    gives_sooner c.args.world.now c.give_back.new.world c.args.cache.now c.args.core.now c.args.taking c.in-Ok-More.next _ c.requires.stands more.0

@@ -20,6 +20,9 @@ use Rattle.file_plans.specs.declared.stage.Stage.TheVariants.{Sees}
 use Rattle.file_plans.specs.laws.SeeLaws.{own_sure, own_went}
 use Rattle.file_plans.specs.laws.WriteEndLaws.{cut_at}
 use Rattle.file_plans.proofs.seeing.own.Goals as goal
+use Rattle.file_plans.specs.laws.TurnKnownLaws.{placed_rests}
+use Rattle.file_plans.specs.Turns.{IsSooner}
+use Rattle.std.proofs.Common.{refl}
 
 pub write_own-requires-clause-own : goal.write_own-requires-clause-own
 write_own-requires-clause-own g c =
@@ -60,3 +63,11 @@ returns-in-Err-clause-cut g c =
     (own_sure c.args.world.now c.args.cache.now c.args.core.now c.args.number c.requires.stands
     (subst Consistent c.locks.ensures c.geometry-geometry.ensures.consistent) c.requires.sight).2
     c.in-Err.ensures.others c.in-Err.ensures.did)
+
+pub returns-in-Ok-clause-sooner : goal.returns-in-Ok-clause-sooner
+returns-in-Ok-clause-sooner g c =
+    subst (λ (s : Step). IsSooner c.args.world.now c.args.cache.now c.args.core.now Sees c.write_own.new.self c.args.cache.now
+    (record c.args.core.now { outcome = Placed Done }) s.next c.rested-next.result.1) (sym c.made.ensures)
+    (placed_rests c.args.world.now c.write_own.new.self c.args.cache.now c.args.cache.now c.args.core.now _ Done c.rested-next.result.0
+    c.rested-next.result.1
+    c.in-Ok.ensures.others.locks.lasts.geometry c.requires.stands.1 refl c.rested-next.ensures)

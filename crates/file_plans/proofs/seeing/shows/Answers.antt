@@ -9,6 +9,9 @@ use Rattle.file_plans.specs.declared.stage.Stage.TheVariants.{Sees}
 use Rattle.file_plans.specs.laws.SeeLaws.{shows_has, shows_named, shows_went}
 use Rattle.file_plans.specs.laws.WriteEndLaws.{cut_at}
 use Rattle.file_plans.proofs.seeing.shows.Goals as goal
+use Rattle.file_plans.specs.laws.TurnKnownLaws.{placed_rests}
+use Rattle.file_plans.specs.Turns.{IsSooner}
+use Rattle.std.proofs.Common.{refl}
 
 pub read_number-requires-clause-named : goal.read_number-requires-clause-named
 read_number-requires-clause-named g c =
@@ -31,3 +34,11 @@ returns-in-Err-clause-cut g c =
     cut_at c.args.world.now c.read_number.new.self c.args.core.now Sees c.in-Err.why
     (cut_block c.args.world.now c.read_number.new.self c.args.core.now.host c.args.number c.in-Err.why c.in-Err.ensures.others
     c.in-Err.ensures.did)
+
+pub returns-in-Ok-clause-sooner : goal.returns-in-Ok-clause-sooner
+returns-in-Ok-clause-sooner g c =
+    subst (λ (s : Step). IsSooner c.args.world.now c.args.cache.now c.args.core.now Sees c.read_number.new.self c.args.cache.now
+    (record c.args.core.now { outcome = Placed (Holds c.in-Ok.block) }) s.next c.rested-next.result.1) (sym c.made.ensures)
+    (placed_rests c.args.world.now c.read_number.new.self c.args.cache.now c.args.cache.now c.args.core.now _ (Holds c.in-Ok.block)
+    c.rested-next.result.0 c.rested-next.result.1
+    c.in-Ok.ensures.looked.geometry c.requires.stands.1 refl c.rested-next.ensures)

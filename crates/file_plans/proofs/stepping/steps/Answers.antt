@@ -1,6 +1,7 @@
 use Rattle.file_plans.specs.declared.stage.Stage.TheVariants as stages
 use Rattle.file_plans.specs.laws.PlanLaws.{errs_at, oks_at}
 use Rattle.file_plans.proofs.stepping.steps.Goals as goal
+use Rattle.file_plans.specs.laws.TurnStepLaws.{sooners_at}
 
 pub returns-in-Begins-clause-step : goal.returns-in-Begins-clause-step
 returns-in-Begins-clause-step g c =
@@ -34,7 +35,8 @@ returns-in-Reads-clause-cut g c =
 
 pub returns-in-GivesBack-clause-step : goal.returns-in-GivesBack-clause-step
 returns-in-GivesBack-clause-step g c =
-    oks_at c.args.world.now c.gives_back.new.world c.gives_back.new.cache c.args.core.now c.gives_back.new.core c.args.stage (stages.GivesBack c.in-GivesBack.taking)
+    oks_at c.args.world.now c.gives_back.new.world c.gives_back.new.cache c.args.core.now c.gives_back.new.core c.args.stage (stages.GivesBack
+    c.in-GivesBack.taking)
     c.gives_back.result c.in-GivesBack.is c.gives_back.ensures.went
 
 pub returns-in-GivesBack-clause-cut : goal.returns-in-GivesBack-clause-cut
@@ -54,32 +56,38 @@ returns-in-Sees-clause-cut g c =
 
 pub returns-in-Searches-clause-step : goal.returns-in-Searches-clause-step
 returns-in-Searches-clause-step g c =
-    oks_at c.args.world.now c.searches.new.world c.args.cache.now c.args.core.now c.searches.new.core c.args.stage (stages.Searches c.in-Searches.old c.in-Searches.shared c.in-Searches.search)
+    oks_at c.args.world.now c.searches.new.world c.args.cache.now c.args.core.now c.searches.new.core c.args.stage (stages.Searches
+    c.in-Searches.old c.in-Searches.shared c.in-Searches.search)
     c.searches.result c.in-Searches.is c.searches.ensures.went
 
 pub returns-in-Searches-clause-cut : goal.returns-in-Searches-clause-cut
 returns-in-Searches-clause-cut g c =
-    errs_at c.args.world.now c.searches.new.world c.args.core.now c.args.stage (stages.Searches c.in-Searches.old c.in-Searches.shared c.in-Searches.search)
+    errs_at c.args.world.now c.searches.new.world c.args.core.now c.args.stage (stages.Searches c.in-Searches.old c.in-Searches.shared
+    c.in-Searches.search)
     c.searches.result c.in-Searches.is c.searches.ensures.cut
 
 pub returns-in-LocksShared-clause-step : goal.returns-in-LocksShared-clause-step
 returns-in-LocksShared-clause-step g c =
-    oks_at c.args.world.now c.locks_shared.new.world c.args.cache.now c.args.core.now c.locks_shared.new.core c.args.stage (stages.LocksShared c.in-LocksShared.old c.in-LocksShared.number c.in-LocksShared.group)
+    oks_at c.args.world.now c.locks_shared.new.world c.args.cache.now c.args.core.now c.locks_shared.new.core c.args.stage (stages.LocksShared
+    c.in-LocksShared.old c.in-LocksShared.number c.in-LocksShared.group)
     c.locks_shared.result c.in-LocksShared.is c.locks_shared.ensures.went
 
 pub returns-in-LocksShared-clause-cut : goal.returns-in-LocksShared-clause-cut
 returns-in-LocksShared-clause-cut g c =
-    errs_at c.args.world.now c.locks_shared.new.world c.args.core.now c.args.stage (stages.LocksShared c.in-LocksShared.old c.in-LocksShared.number c.in-LocksShared.group)
+    errs_at c.args.world.now c.locks_shared.new.world c.args.core.now c.args.stage (stages.LocksShared c.in-LocksShared.old
+    c.in-LocksShared.number c.in-LocksShared.group)
     c.locks_shared.result c.in-LocksShared.is c.locks_shared.ensures.cut
 
 pub returns-in-FetchesShared-clause-step : goal.returns-in-FetchesShared-clause-step
 returns-in-FetchesShared-clause-step g c =
-    oks_at c.args.world.now c.fetches_shared.new.world c.args.cache.now c.args.core.now c.fetches_shared.new.core c.args.stage (stages.FetchesShared c.in-FetchesShared.old c.in-FetchesShared.number c.in-FetchesShared.group)
+    oks_at c.args.world.now c.fetches_shared.new.world c.args.cache.now c.args.core.now c.fetches_shared.new.core c.args.stage
+    (stages.FetchesShared c.in-FetchesShared.old c.in-FetchesShared.number c.in-FetchesShared.group)
     c.fetches_shared.result c.in-FetchesShared.is c.fetches_shared.ensures.went
 
 pub returns-in-FetchesShared-clause-cut : goal.returns-in-FetchesShared-clause-cut
 returns-in-FetchesShared-clause-cut g c =
-    errs_at c.args.world.now c.fetches_shared.new.world c.args.core.now c.args.stage (stages.FetchesShared c.in-FetchesShared.old c.in-FetchesShared.number c.in-FetchesShared.group)
+    errs_at c.args.world.now c.fetches_shared.new.world c.args.core.now c.args.stage (stages.FetchesShared c.in-FetchesShared.old
+    c.in-FetchesShared.number c.in-FetchesShared.group)
     c.fetches_shared.result c.in-FetchesShared.is c.fetches_shared.ensures.cut
 
 pub returns-in-Puts-clause-step : goal.returns-in-Puts-clause-step
@@ -124,7 +132,8 @@ returns-in-Fetches-clause-cut g c =
 
 pub returns-in-Changes-clause-step : goal.returns-in-Changes-clause-step
 returns-in-Changes-clause-step g c =
-    oks_at c.args.world.now c.changes.new.world c.args.cache.now c.args.core.now c.changes.new.core c.args.stage (stages.Changes c.in-Changes.change c.in-Changes.group)
+    oks_at c.args.world.now c.changes.new.world c.args.cache.now c.args.core.now c.changes.new.core c.args.stage (stages.Changes
+    c.in-Changes.change c.in-Changes.group)
     c.changes.result c.in-Changes.is c.changes.ensures.went
 
 pub returns-in-Changes-clause-cut : goal.returns-in-Changes-clause-cut
@@ -134,7 +143,8 @@ returns-in-Changes-clause-cut g c =
 
 pub returns-in-Applies-clause-step : goal.returns-in-Applies-clause-step
 returns-in-Applies-clause-step g c =
-    oks_at c.args.world.now c.applies.new.world c.applies.new.cache c.args.core.now c.applies.new.core c.args.stage (stages.Applies c.in-Applies.applying)
+    oks_at c.args.world.now c.applies.new.world c.applies.new.cache c.args.core.now c.applies.new.core c.args.stage (stages.Applies
+    c.in-Applies.applying)
     c.applies.result c.in-Applies.is c.applies.ensures.went
 
 pub returns-in-Applies-clause-cut : goal.returns-in-Applies-clause-cut
@@ -151,3 +161,90 @@ pub returns-in-Frees-clause-cut : goal.returns-in-Frees-clause-cut
 returns-in-Frees-clause-cut g c =
     errs_at c.args.world.now c.frees.new.world c.args.core.now c.args.stage stages.Frees
     c.frees.result c.in-Frees.is c.frees.ensures.cut
+
+pub returns-in-Begins-clause-sooner : goal.returns-in-Begins-clause-sooner
+returns-in-Begins-clause-sooner g c =
+    sooners_at c.args.world.now c.begins.new.world c.args.cache.now c.begins.new.cache c.args.core.now c.begins.new.core c.args.stage stages.Begins
+    c.begins.result c.in-Begins.is c.begins.ensures.sooner
+
+pub returns-in-Writes-clause-sooner : goal.returns-in-Writes-clause-sooner
+returns-in-Writes-clause-sooner g c =
+    sooners_at c.args.world.now c.writes.new.world c.args.cache.now c.args.cache.now c.args.core.now c.writes.new.core c.args.stage
+    (stages.Writes c.in-Writes.taking)
+    c.writes.result c.in-Writes.is c.writes.ensures.sooner
+
+pub returns-in-Reads-clause-sooner : goal.returns-in-Reads-clause-sooner
+returns-in-Reads-clause-sooner g c =
+    sooners_at c.args.world.now c.reads.new.world c.args.cache.now c.args.cache.now c.args.core.now c.reads.new.core c.args.stage (stages.Reads
+    c.in-Reads.taking)
+    c.reads.result c.in-Reads.is c.reads.ensures.sooner
+
+pub returns-in-GivesBack-clause-sooner : goal.returns-in-GivesBack-clause-sooner
+returns-in-GivesBack-clause-sooner g c =
+    sooners_at c.args.world.now c.gives_back.new.world c.args.cache.now c.gives_back.new.cache c.args.core.now c.gives_back.new.core c.args.stage
+    (stages.GivesBack c.in-GivesBack.taking)
+    c.gives_back.result c.in-GivesBack.is c.gives_back.ensures.sooner
+
+pub returns-in-Sees-clause-sooner : goal.returns-in-Sees-clause-sooner
+returns-in-Sees-clause-sooner g c =
+    sooners_at c.args.world.now c.sees.new.world c.args.cache.now c.sees.new.cache c.args.core.now c.sees.new.core c.args.stage stages.Sees
+    c.sees.result c.in-Sees.is c.sees.ensures.sooner
+
+pub returns-in-Searches-clause-sooner : goal.returns-in-Searches-clause-sooner
+returns-in-Searches-clause-sooner g c =
+    sooners_at c.args.world.now c.searches.new.world c.args.cache.now c.args.cache.now c.args.core.now c.searches.new.core c.args.stage
+    (stages.Searches c.in-Searches.old c.in-Searches.shared c.in-Searches.search)
+    c.searches.result c.in-Searches.is c.searches.ensures.sooner
+
+pub returns-in-LocksShared-clause-sooner : goal.returns-in-LocksShared-clause-sooner
+returns-in-LocksShared-clause-sooner g c =
+    sooners_at c.args.world.now c.locks_shared.new.world c.args.cache.now c.args.cache.now c.args.core.now c.locks_shared.new.core c.args.stage
+    (stages.LocksShared c.in-LocksShared.old c.in-LocksShared.number c.in-LocksShared.group)
+    c.locks_shared.result c.in-LocksShared.is c.locks_shared.ensures.sooner
+
+pub returns-in-FetchesShared-clause-sooner : goal.returns-in-FetchesShared-clause-sooner
+returns-in-FetchesShared-clause-sooner g c =
+    sooners_at c.args.world.now c.fetches_shared.new.world c.args.cache.now c.args.cache.now c.args.core.now c.fetches_shared.new.core
+    c.args.stage (stages.FetchesShared c.in-FetchesShared.old c.in-FetchesShared.number c.in-FetchesShared.group)
+    c.fetches_shared.result c.in-FetchesShared.is c.fetches_shared.ensures.sooner
+
+pub returns-in-Puts-clause-sooner : goal.returns-in-Puts-clause-sooner
+returns-in-Puts-clause-sooner g c =
+    sooners_at c.args.world.now c.puts.new.world c.args.cache.now c.args.cache.now c.args.core.now c.puts.new.core c.args.stage (stages.Puts
+    c.in-Puts.fresh)
+    c.puts.result c.in-Puts.is c.puts.ensures.sooner
+
+pub returns-in-Fills-clause-sooner : goal.returns-in-Fills-clause-sooner
+returns-in-Fills-clause-sooner g c =
+    sooners_at c.args.world.now c.fills.new.world c.args.cache.now c.args.cache.now c.args.core.now c.fills.new.core c.args.stage (stages.Fills
+    c.in-Fills.fresh)
+    c.fills.result c.in-Fills.is c.fills.ensures.sooner
+
+pub returns-in-Locks-clause-sooner : goal.returns-in-Locks-clause-sooner
+returns-in-Locks-clause-sooner g c =
+    sooners_at c.args.world.now c.locks.new.world c.args.cache.now c.args.cache.now c.args.core.now c.locks.new.core c.args.stage (stages.Locks
+    c.in-Locks.change)
+    c.locks.result c.in-Locks.is c.locks.ensures.sooner
+
+pub returns-in-Fetches-clause-sooner : goal.returns-in-Fetches-clause-sooner
+returns-in-Fetches-clause-sooner g c =
+    sooners_at c.args.world.now c.fetches.new.world c.args.cache.now c.args.cache.now c.args.core.now c.fetches.new.core c.args.stage
+    (stages.Fetches c.in-Fetches.change)
+    c.fetches.result c.in-Fetches.is c.fetches.ensures.sooner
+
+pub returns-in-Changes-clause-sooner : goal.returns-in-Changes-clause-sooner
+returns-in-Changes-clause-sooner g c =
+    sooners_at c.args.world.now c.changes.new.world c.args.cache.now c.args.cache.now c.args.core.now c.changes.new.core c.args.stage
+    (stages.Changes c.in-Changes.change c.in-Changes.group)
+    c.changes.result c.in-Changes.is c.changes.ensures.sooner
+
+pub returns-in-Applies-clause-sooner : goal.returns-in-Applies-clause-sooner
+returns-in-Applies-clause-sooner g c =
+    sooners_at c.args.world.now c.applies.new.world c.args.cache.now c.applies.new.cache c.args.core.now c.applies.new.core c.args.stage
+    (stages.Applies c.in-Applies.applying)
+    c.applies.result c.in-Applies.is c.applies.ensures.sooner
+
+pub returns-in-Frees-clause-sooner : goal.returns-in-Frees-clause-sooner
+returns-in-Frees-clause-sooner g c =
+    sooners_at c.args.world.now c.frees.new.world c.args.cache.now c.args.cache.now c.args.core.now c.frees.new.core c.args.stage stages.Frees
+    c.frees.result c.in-Frees.is c.frees.ensures.sooner

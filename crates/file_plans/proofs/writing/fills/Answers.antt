@@ -1,13 +1,15 @@
-use Rattle.std.proofs.Common.{ℕ, List, ap, arith, subst}
+use Rattle.std.proofs.Common.{ℕ, List, ap, subst}
+use Rattle.std.proofs.Common.{refl}
 use Rattle.vol_base.specs.declared.plain.PlainCall.TheVariants.{Write}
 use Rattle.disk_locks.specs.Consistent.{Consistent}
 use Rattle.host_facts.specs.Facts.Fact.{FreshIs}
 use Rattle.host_facts.specs.Knows.{Knows}
 use Rattle.file_plans.specs.Calls.{block_of}
 use Rattle.file_plans.specs.declared.stage.Stage.TheVariants as stages
-use Rattle.file_plans.specs.laws.FewerLaws.{record_fewer}
 use Rattle.file_plans.specs.laws.WriteEndLaws.{cut_at, record_placed}
 use Rattle.file_plans.proofs.writing.fills.Goals as goal
+use Rattle.file_plans.specs.laws.TurnStepLaws.{placed_sooner, record_first}
+use Rattle.vol_base.specs.declared.plain.PlainReply.TheVariants.{Done}
 
 pub returns-in-Ok-clause-went : goal.returns-in-Ok-clause-went
 returns-in-Ok-clause-went g c =
@@ -21,14 +23,17 @@ returns-in-Ok-clause-went g c =
     (ap (λ call. (block_of call).0) c.written-file.ensures) c.requires.stands.1))
     c.places.ensures.core c.places.ensures.step c.places.ensures.stage
 
-pub returns-in-Ok-clause-less : goal.returns-in-Ok-clause-less
-returns-in-Ok-clause-less g c =
-    record_fewer c.args.world.now.locks.geometry (stages.Fills c.args.fresh) _ _ c.in-Ok.applying
-    (c.in-Ok.ensures.went c.written-file.result.2.now
-    (subst (λ (bytes : List ℕ). Knows c.args.world.now c.args.core.now.host (FreshIs c.args.fresh.number bytes))
-    (ap (λ call. (block_of call).0) c.written-file.ensures) c.requires.stands.1)).order
-    c.places.ensures.few c.places.ensures.stage (omega arith)
-
 pub returns-in-Err-clause-cut : goal.returns-in-Err-clause-cut
 returns-in-Err-clause-cut g c =
     cut_at c.args.world.now c.commit_fill-came.new.world c.args.core.now (stages.Fills c.args.fresh) c.in-Err.why c.in-Err.ensures.cut
+
+pub returns-in-Ok-clause-sooner : goal.returns-in-Ok-clause-sooner
+returns-in-Ok-clause-sooner g c =
+    placed_sooner c.args.world.now c.commit_fill-came.new.world c.args.cache.now c.args.core.now _ (stages.Fills c.args.fresh) _ _
+    c.in-Ok.applying Done
+    c.in-Ok.ensures.others.locks.lasts.geometry
+    (c.in-Ok.ensures.went c.written-file.result.2.now
+    (subst (λ (bytes : List ℕ). Knows c.args.world.now c.args.core.now.host (FreshIs c.args.fresh.number bytes))
+    (ap (λ call. (block_of call).0) c.written-file.ensures) c.requires.stands.1)).order
+    c.places.ensures.few c.places.ensures.stage c.places.ensures.core
+    (record_first c.args.world.now c.args.cache.now c.args.core.now (stages.Fills c.args.fresh) refl)

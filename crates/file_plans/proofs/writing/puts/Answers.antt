@@ -8,6 +8,9 @@ use Rattle.file_plans.specs.declared.stage.Stage.TheVariants as stages
 use Rattle.file_plans.specs.laws.WriteEndLaws.{cut_at, went_as}
 use Rattle.file_plans.specs.laws.WriteStageLaws.{block_put}
 use Rattle.file_plans.proofs.writing.puts.Goals as goal
+use Rattle.file_plans.specs.laws.TurnStepLaws.{round_sooner}
+use Rattle.held_cache.specs.Kept.{kept_at}
+use Rattle.std.proofs.Common.{arith, refl}
 
 pub write_fresh-done-requires-clause-free : goal.write_fresh-done-requires-clause-free
 write_fresh-done-requires-clause-free g c =
@@ -30,3 +33,9 @@ returns-in-Err-clause-cut g c =
     cut_at c.args.world.now c.write_fresh-done.new.self c.args.core.now (stages.Puts c.args.fresh) c.in-Err.why
     (cut_write c.args.world.now c.write_fresh-done.new.self c.args.core.now.host (Number c.args.fresh.number) c.written.result.2.now.0
     c.in-Err.why c.requires.stands.block.has c.in-Err.ensures.others c.in-Err.ensures.did)
+
+pub returns-in-Ok-clause-sooner : goal.returns-in-Ok-clause-sooner
+returns-in-Ok-clause-sooner g c =
+    round_sooner c.args.world.now c.write_fresh-done.new.self c.args.cache.now c.args.core.now c.args.core.now (stages.Puts c.args.fresh)
+    (stages.Fills c.args.fresh) _ (kept_at c.args.cache.now c.args.core.now.host) c.args.core.now.call
+    c.in-Ok.ensures.others.locks.lasts.geometry refl refl (omega arith)

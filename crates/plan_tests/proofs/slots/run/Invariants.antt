@@ -1,4 +1,5 @@
 use Rattle.std.proofs.Common.{◌≡◌, None}
+use Rattle.host_facts.specs.Others.{Others}
 use Rattle.lock_store.specs.Views.{told_of}
 use Rattle.recover_plan.specs.Plans.{PlanStands}
 use Rattle.plan_tests.proofs.slots.run.Given as goal
@@ -10,4 +11,5 @@ invariant-loop-step g l = record {
   stands : PlanStands l.world l.plan.host l.watch l.plan.doing;
   untold : told_of l.world.locks ≡ None;
   geometry : l.world.locks.geometry ≡ l.initial.world.locks.geometry;
+  others : Others l.host l.initial.world l.world;
 }

@@ -15,7 +15,7 @@ pub returns-in-Ok-clause-came : goal.returns-in-Ok-clause-came
 returns-in-Ok-clause-came g c watch stands =
     unlock_came c.args.world.now c.unlock.new.world c.args.host c.args.file watch
     (subst Consistent c.locks.ensures c.geometry-geometry.ensures.consistent) c.in-Ok.ensures.consistent c.requires.file
-    c.in-Ok.ensures.others c.in-Ok.ensures.standing c.in-Ok.field-0 c.in-Ok.ensures.did stands
+    c.in-Ok.ensures.others c.in-Ok.ensures.standing c.in-Ok.field-0 c.in-Ok.ensures.did stands c.requires.held
 
 pub returns-in-Ok-clause-others : goal.returns-in-Ok-clause-others
 returns-in-Ok-clause-others g c =

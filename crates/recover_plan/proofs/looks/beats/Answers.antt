@@ -1,3 +1,4 @@
+use Rattle.std.proofs.Common.{arith}
 use Rattle.vol_base.specs.declared.command.Command.TheVariants.{Beat}
 use Rattle.plan_parts.specs.laws.CutCallLaws.{cut_weaker}
 use Rattle.recover_plan.proofs.looks.beats.Goals as goal
@@ -6,6 +7,8 @@ pub returns-in-Ok-clause-came : goal.returns-in-Ok-clause-came
 returns-in-Ok-clause-came g c = record {
   owes = c.in-Ok.ensures.owes c.args.watch.now;
   stands = c.in-Ok.ensures.watched c.args.watch.now c.requires.stands.watched;
+  tables = λ keeps uncut. c.in-Ok.ensures.tables;
+  fewer = omega arith;
 }
 
 pub returns-in-Err-clause-cut : goal.returns-in-Err-clause-cut

@@ -6,7 +6,7 @@ use Rattle.disk_locks.specs.Consistent.{Consistent}
 use Rattle.plan_parts.specs.laws.CutCallLaws.{cut_read}
 use Rattle.plan_parts.specs.laws.TakenLaws.{others_locks}
 use Rattle.recover_plan.specs.PlanSteps.{OpenNoted, RestsWith}
-use Rattle.recover_plan.specs.laws.LookLaws.{look_owes, look_watched}
+use Rattle.recover_plan.specs.laws.LookLaws.{look_owes, look_tables, look_watched}
 use Rattle.recover_plan.specs.laws.StepLaws.{ready_key}
 use Rattle.recover_plan.proofs.looks.look.Goals as goal
 
@@ -31,6 +31,13 @@ returns-in-Ok-clause-watched g c =
     (subst Consistent c.locks.ensures c.geometry-geometry.ensures.consistent) c.in-Ok.ensures.consistent c.requires.host c.requires.ready
     c.in-Ok.ensures.others c.in-Ok.ensures.standing c.args.watch.now c.args.of c.in-Ok.slot c.requires.of c.in-Ok.ensures.did
     c.look.new.self c.look.ensures.look c.look.ensures.others c.requires.watched
+
+pub returns-in-Ok-clause-tables : goal.returns-in-Ok-clause-tables
+returns-in-Ok-clause-tables g c =
+    look_tables c.args.world.now c.read.new.world c.args.host
+    (subst Consistent c.locks.ensures c.geometry-geometry.ensures.consistent) c.in-Ok.ensures.consistent c.requires.host c.requires.ready
+    c.in-Ok.ensures.others c.in-Ok.ensures.standing c.args.watch.now c.args.of c.in-Ok.slot c.requires.of c.in-Ok.ensures.did
+    c.look.new.self c.look.ensures.look c.look.ensures.others
 
 pub returns-in-Ok-clause-others : goal.returns-in-Ok-clause-others
 returns-in-Ok-clause-others g c =

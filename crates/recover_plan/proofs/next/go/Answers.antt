@@ -2,12 +2,15 @@ use Rattle.std.proofs.Common.{refl, subst}
 use Rattle.vol_base.specs.declared.answer.CutBy.TheVariants as cuts
 use Rattle.lock_store.specs.declared.answers.StepNo.TheVariants as steps
 use Rattle.disk_locks.specs.Consistent.{Consistent}
-use Rattle.recover_plan.specs.laws.NextLaws.{stopped_came, stopped_untouched}
+use Rattle.plan_parts.specs.laws.CutCallLaws.{cut_untouched}
+use Rattle.recover_plan.specs.Plans.{Agrees, command_of}
+use Rattle.recover_plan.specs.laws.NextLaws.{stopped_came}
 use Rattle.recover_plan.proofs.next.go.Goals as goal
 
 pub returns-in-Err-NoMemory-clause-none : goal.returns-in-Err-NoMemory-clause-none
 returns-in-Err-NoMemory-clause-none g c =
-    stopped_untouched c.args.world.now c.call.new.world c.args.host c.args.watch.now c.args.doing
+    cut_untouched (command_of c.args.doing) c.args.host c.args.world.now c.call.new.world
+    (Agrees c.args.host c.args.world.now c.args.watch.now c.args.doing)
     (rw c.in-Err-NoMemory.field-0-is at c.in-Err-NoMemory.ensures.cut)
 
 pub returns-in-Err-Fenced-clause-came : goal.returns-in-Err-Fenced-clause-came

@@ -8,7 +8,7 @@ use Rattle.recover_plan.proofs.recover.begin_with.Goals as goal
 pub returns-in-Ok-clause-came : goal.returns-in-Ok-clause-came
 returns-in-Ok-clause-came g c =
     begin_came c.args.host c.args.of c.args.world.now c.recovers.new.world c.args.watch.now c.recovers.new.watch c.args.stage
-    c.in-Ok.come c.requires.agrees c.in-Ok.ensures.came
+    c.in-Ok.come c.requires.agrees c.requires.most c.in-Ok.ensures.came
 
 pub returns-in-Err-clause-cut : goal.returns-in-Err-clause-cut
 returns-in-Err-clause-cut g c =

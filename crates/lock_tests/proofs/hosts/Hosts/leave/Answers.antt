@@ -1,4 +1,4 @@
-use Rattle.std.proofs.Common.{rules, ◌≡◌, ℕ, List, Bool, true, false, length, inl, inr, refl, subst, slice_index_or}
+use Rattle.std.proofs.Common.{rules, ◌≡◌, ℕ, List, Bool, true, false, length, inl, inr, refl, subst, sym, slice_index_or}
 use Rattle.std.specs.Prelude.{Contains}
 use Rattle.std.proofs.lemmas.Bool.{cases_Bool, cases_lt}
 use Rattle.std.proofs.lemmas.List.{get_or_past}
@@ -7,7 +7,7 @@ use Rattle.vol_layout.specs.declared.geometry.Geometry.{Geometry}
 use Rattle.vol_layout.specs.declared.kind.Resource.{Resource}
 use Rattle.lock_store.specs.declared.host.HostState.{HostState}
 use Rattle.lock_store.specs.Memories.{claim_of, index_of}
-use Rattle.lock_store.specs.Views.{host_at}
+use Rattle.lock_store.specs.Views.{LocksView, host_at}
 use Rattle.disk_locks.specs.Freeing.{MayFreeSlot}
 use Rattle.lock_tests.proofs.hosts.Hosts.leave.Goals as goal
 
@@ -25,7 +25,10 @@ may_leave g h m joined nothing unclaimed = inr (refl, joined, (λ (r : Resource)
 
 pub free_slot-requires-clause-may : goal.free_slot-requires-clause-may
 free_slot-requires-clause-may c =
-    let joined : (host_at c.args.self.now.locks c.args.host).joined ≡ true = search rules in
-    let nothing : Contains (host_at c.args.self.now.locks c.args.host).held true → ⊥ = search rules in
-    let unclaimed : claim_of (host_at c.args.self.now.locks c.args.host) c.args.host ≡ 0 = search rules in
-    may_leave c.args.self.now.locks.geometry c.args.host (host_at c.args.self.now.locks c.args.host) joined nothing unclaimed
+    let joined : (host_at c.args.self.now.world.locks c.args.host).joined ≡ true = search rules in
+    let nothing : Contains (host_at c.args.self.now.world.locks c.args.host).held true → ⊥ = search rules in
+    let unclaimed : claim_of (host_at c.args.self.now.world.locks c.args.host) c.args.host ≡ 0 = search rules in
+    subst
+    (λ (v : LocksView). MayFreeSlot v.geometry c.args.host c.args.host (host_at v c.args.host))
+    (sym c.locks_mut.ensures.now)
+    (may_leave c.args.self.now.world.locks.geometry c.args.host (host_at c.args.self.now.world.locks c.args.host) joined nothing unclaimed)

@@ -1,0 +1,27 @@
+use Rattle.std.proofs.Common.{None, refl, subst, sym}
+use Rattle.vol_layout.specs.declared.kind.Resource.{Resource}
+use Rattle.plan_parts.specs.Fetched.{Takes}
+use Rattle.share_plans.specs.declared.stage.Stage.TheVariants as stages
+use Rattle.share_plans.specs.Went.{Went}
+use Rattle.share_plans.specs.laws.LockStageLaws.{source_locked, lock_busy, lock_room_locks_source}
+use Rattle.share_plans.specs.laws.StillLaws.{with_taken}
+use Rattle.share_plans.proofs.locking.locks_source.Goals as goal
+
+pub returns-in-None-clause-went : goal.returns-in-None-clause-went
+returns-in-None-clause-went g c =
+    subst (Went c.args.world.now c.take-came.new.world c.args.core.now (with_taken c.args.core.now c.take-came.new.self)
+    (stages.LocksSource c.args.pair)) (sym c.behind_locks.ensures)
+    (source_locked c.args.world.now c.take-came.new.world c.args.core.now c.args.pair c.take-came.new.self c.requires.stands
+    (subst (λ (r : Resource). Takes c.args.core.now.host c.args.world.now c.take-came.new.world r c.args.core.now.taken c.take-came.new.self None)
+    c.resource_of-what.ensures.resource
+    (subst (Takes c.args.core.now.host c.args.world.now c.take-came.new.world c.resource_of-what.result c.args.core.now.taken
+    c.take-came.new.self) c.in-None.is c.in-Ok.ensures.went)))
+
+pub returns-in-Some-clause-went : goal.returns-in-Some-clause-went
+returns-in-Some-clause-went g c =
+    subst (Went c.args.world.now c.take-came.new.world c.args.core.now (with_taken c.args.core.now c.take-came.new.self)
+    (stages.LocksSource c.args.pair)) (sym c.ends.ensures)
+    (lock_busy c.args.world.now c.take-came.new.world c.args.core.now (stages.LocksSource c.args.pair) c.take-came.new.self c.in-Some.key refl
+    c.requires.stands.0 (lock_room_locks_source c.args.world.now c.args.core.now c.args.pair c.requires.stands)
+    (subst (Takes c.args.core.now.host c.args.world.now c.take-came.new.world c.resource_of-what.result c.args.core.now.taken
+    c.take-came.new.self) c.in-Some.is c.in-Ok.ensures.went))

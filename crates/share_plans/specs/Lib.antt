@@ -1,0 +1,11 @@
+pub mod Causes
+pub mod Closings
+pub mod Lefts
+pub mod LinkRecords
+pub mod Places
+pub mod Promotions
+pub mod ReadTables
+pub mod Spots
+pub mod Stands
+pub mod Went
+pub mod laws

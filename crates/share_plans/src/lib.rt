@@ -1,0 +1,52 @@
+//! Plans by which equal blocks come to share one place, cut at each device call. Each is a part of a larger command of its host.
+//!
+//! # What is proved
+//!
+//! - `SharePlan::next`: where the plan stands (`At`), a step makes one device call (`Went`). Its turn may make the call in any command of
+//!   which a share may be a part (`MayShare`), the files stay on every told image, which stays valid, and the notes of a run agree behind it: a
+//!   busy lock has been shown there exactly where the share came to `Busy`. The host keeps its holds of files (`KeepsHolds`), what comes next
+//!   stands, and what other hosts rely on stays (`Others`). Fewer steps are left, and at most eighteen come.
+//! - No step changes a logical number but the one that comes to `Linked`, which is the commit of the link (`HasAnswered`): there the place and
+//!   the source had two data blocks with equal bytes, and this is the step by which they become one (`IsLink`): the place's pointer names
+//!   the source's data block with the mark, a file source gets the mark, one count falls and the other rises by one.
+//! - Each answer has its cause at the call at which it is found (`IsCause`), and stays while locks are freed. `Hole`: the file has no block
+//!   at the index. `NoSource`: the place has one, and the source has none; of a slot, its table had 0 at the first read, or another number at
+//!   the second than at the first. `Already`: both have one data block. `Differs`: two data blocks, whose bytes differ there for the first
+//!   time. `Busy`: another host's key. Where a step goes on instead, what stands behind it says that it has no such cause: so each comes exactly
+//!   where it has to.
+//! - The slot's part is not locked: a slot that is read under the lock of the group of its data block keeps it, since a record that edits the slot
+//!   would edit the block's count. So it is the slot's logical number.
+//! - `PromotePlan::next`: the same of a promotion. `Promoted` comes at its commit alone (`IsPromotion`): the lowest empty slot of the host's own
+//!   part names the block, the pointer has the mark, and the count is 2, of a block that had no mark and the count 1. `Marked`, `Hole` and
+//!   `PartFull` come by the logical numbers at their read. At most thirteen steps come.
+//! - A step that is refused cuts the command of which the plan is a part (`IsCut`), and changes no file. Behind an answer no record stands, and the
+//!   host holds no part and no group (`IsReady`).
+//! - The plans begin where their host is ready and holds their files (`share_begins`, `promote_begins`), and stand over the calls of other
+//!   hosts (`share_still`, `promote_still`).
+//!
+//! Over a device that tells nothing a count at its greatest number stays as it is; over one that tells, a link always has room for one more.
+//! The merge, the serving of requests and the settling of a volume will call these plans, and none does yet. The emptying of slots whose blocks
+//! nothing else names is not built.
+#![tactic(auto)]
+
+mod closing;
+mod comparing;
+mod counting;
+mod ending;
+mod linking;
+mod locking;
+mod peeking;
+mod promote;
+mod promoting;
+mod promotion;
+mod reading;
+mod share;
+mod sharing;
+mod sight;
+mod stage;
+mod tables;
+
+pub use promote::PromotePlan;
+pub use promotion::Promoted;
+pub use share::SharePlan;
+pub use sharing::{Place, Shared};
