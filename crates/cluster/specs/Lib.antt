@@ -1,0 +1,15 @@
+pub mod Agreements
+pub mod Budgets
+pub mod Dropping
+pub mod Events
+pub mod HostTurns
+pub mod LinesLeft
+pub mod Origins
+pub mod Parts
+pub mod PlanTurns
+pub mod Plans
+pub mod Runs
+pub mod Seats
+pub mod Starts
+pub mod Views
+pub mod laws

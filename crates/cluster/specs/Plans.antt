@@ -1,0 +1,111 @@
+-- The plan of a command: which one runs it, what stands between two of its steps, and what its host's notes agree with there.
+use Rattle.std.specs.Prelude.{◌≡◌, ℕ, List, [], None, Option}
+use Rattle.vol_base.specs.declared.answer.Answer.TheVariants.{Cut}
+use Rattle.vol_base.specs.declared.answer.Next.{Next}
+use Rattle.vol_base.specs.declared.answer.Next.TheVariants.{Answered, More, Work}
+use Rattle.vol_base.specs.declared.answer.Step.{Step}
+use Rattle.vol_base.specs.declared.command.Command.{Command}
+use Rattle.vol_base.specs.declared.command.Command.TheVariants as commands
+use Rattle.file_plans.specs.Bases.{IsCached}
+use Rattle.file_plans.specs.Calls.{Runs}
+use Rattle.file_plans.specs.Plans.{first_of}
+use Rattle.file_plans.specs.Stands.{At, NotedAt}
+use Rattle.file_plans.specs.declared.plan.FilePlan.{FilePlan}
+use Rattle.file_plans.specs.declared.stage.Stage.TheVariants.{Asks, Begins}
+use Rattle.held_cache.specs.Kept.{Cache, ForgetsHost}
+use Rattle.host_facts.specs.Views.{WorldView}
+use Rattle.host_runs.specs.Awaited.{wanted}
+use Rattle.host_runs.specs.Notes.{Notes}
+use Rattle.plan_parts.specs.Steps.{OwesStep}
+use Rattle.plan_parts.specs.declared.outcome.Outcome.TheVariants.{Open}
+use Rattle.recover_plan.specs.Nexts as slots
+use Rattle.recover_plan.specs.PlanSteps.{AreWatched, RestsWith}
+use Rattle.recover_plan.specs.Plans.{Agrees, PlanStands, command_of}
+use Rattle.watch.specs.Looks.{nothing}
+use Rattle.watch.specs.declared.watch.Look.{Look}
+use Rattle.cluster.specs.declared.plan.Plan.{Plan}
+use Rattle.cluster.specs.declared.plan.Plan.TheVariants.{Files, Slots}
+
+-- a command that a plan runs: one on a file, the closing of a file, or one on slots that is not of the host's own
+abbrev pub IsPlanned : ℕ → Command → Type 0
+IsPlanned h (commands.Create f) = Unit {0}
+IsPlanned h (commands.Size f n) = Unit {0}
+IsPlanned h (commands.Write f i n) = Unit {0}
+IsPlanned h (commands.Read f i) = Unit {0}
+IsPlanned h (commands.Punch f i) = Unit {0}
+IsPlanned h (commands.Remove f) = Unit {0}
+IsPlanned h (commands.Close f) = Unit {0}
+IsPlanned h command = slots.IsOfPlan h command
+
+-- the plan is this host's, and runs the command
+abbrev pub IsOf : ℕ → Command → Plan → Type 0
+IsOf h command (Files plan) = (plan.core.host ≡ h) × Runs command plan.core.call
+IsOf h command (Slots plan) = (plan.host ≡ h) × (command_of plan.doing ≡ command)
+
+-- a plan on a file before its first step: it has taken nothing, and come to nothing
+pub record IsFirst (plan : FilePlan) : Type 0 where
+  pub taken : plan.core.taken ≡ []
+  pub comes : plan.core.outcome ≡ Open
+  pub stage : plan.stage ≡ first_of plan.core.call
+
+-- the plan of a command at its beginning
+abbrev pub IsBegun : ℕ → Command → Plan → Type 0
+IsBegun h command (Files plan) = (plan.core.host ≡ h) × Runs command plan.core.call × IsFirst plan
+IsBegun h command (Slots plan) = (plan.host ≡ h) × (plan.doing ≡ slots.first_of command) × slots.IsOfPlan h command
+
+-- what stands before each step: the plan, what its host remembers of the slots of others, and what is kept of tables for it
+abbrev pub PlanAt : WorldView → Cache → ℕ → List (Option Look) → Plan → Type 0
+PlanAt v c h watch (Files plan) = At v c plan.core plan.stage × AreWatched v h watch
+PlanAt v c h watch (Slots plan) = PlanStands v h watch plan.doing × IsCached v c h
+
+-- what the notes agree with there; no digest is waited for
+abbrev pub PlanNoted : Command → WorldView → ℕ → List (Option Look) → Plan → Notes → Type 0
+PlanNoted command v h watch (Files plan) n =
+    NotedAt command v plan.core plan.stage n × (n.watch ≡ watch) × (wanted v.locks.geometry command n.calls n.digests n.asks ≡ None)
+PlanNoted command v h watch (Slots plan) n = Agrees h v watch plan.doing n
+
+-- behind a step: the plan stands, or its host is between two commands
+pub record IsResting (v : WorldView) (c : Cache) (h : ℕ) (watch : List (Option Look)) : Type 0 where
+  pub watched : AreWatched v h watch
+  pub cached : IsCached v c h
+
+abbrev pub StandsBehind : Command → WorldView → Cache → ℕ → List (Option Look) → Plan → Next → Type 0
+StandsBehind command w d h watch plan (Answered answer) = IsResting w d h watch
+StandsBehind command w d h watch plan (Work block) = ⊥
+StandsBehind command w d h watch plan More = IsOf h command plan × PlanAt w d h watch plan
+
+abbrev pub NotedBehind : Command → WorldView → ℕ → List (Option Look) → Plan → Next → Notes → Type 0
+NotedBehind command w h watch plan (Answered answer) n = RestsWith h w watch n
+NotedBehind command w h watch plan (Work block) n = ⊥
+NotedBehind command w h watch plan More n = PlanNoted command w h watch plan n
+
+-- what a step did: it owes nothing to a turn of a run, and what comes behind it stands
+pub record HasStepped (command : Command) (h : ℕ) (v w : WorldView) (d : Cache) (watch after : List (Option Look)) (old new : Plan) (step : Step)
+    : Type 0 where
+  pub owes : OwesStep command h v w step (PlanNoted command v h watch old) (NotedBehind command w h after new step.next)
+  pub stands : StandsBehind command w d h after new step.next
+
+-- the tables of a host that are kept over a step on slots: those of a host that stays joined; and none behind a cut
+abbrev pub ForgetsFor : Command → ℕ → Cache → Cache → Type 0
+ForgetsFor commands.Beat h c d = d ≡ c
+ForgetsFor (commands.Look of) h c d = d ≡ c
+ForgetsFor (commands.Recover of) h c d = d ≡ c
+ForgetsFor command h c d = ForgetsHost c d h
+
+abbrev pub ForgetsBehind : Next → ℕ → Cache → Cache → Type 0
+ForgetsBehind (Answered (Cut by)) h c d = ForgetsHost c d h
+ForgetsBehind next h c d = d ≡ c
+
+-- a host that was cut remembers no slot
+abbrev pub looks_behind : Next → List (Option Look) → List (Option Look)
+looks_behind (Answered (Cut by)) watch = nothing
+looks_behind next watch = watch
+
+-- a plan on a file that asks for the digest of its block, and the same one behind it
+abbrev pub IsAsking : Plan → Type 0
+IsAsking (Files plan) = plan.stage ≡ Asks
+IsAsking (Slots plan) = ⊥
+
+abbrev pub IsSuppliedIn : Plan → Plan → Type 0
+IsSuppliedIn (Files plan) (Files later) = (later.core ≡ plan.core) × (later.stage ≡ Begins)
+IsSuppliedIn plan later = ⊥

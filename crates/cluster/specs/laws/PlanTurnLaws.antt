@@ -1,0 +1,79 @@
+-- How many turns are left of a plan at its beginning, behind a step, and behind a turn of another host.
+use Rattle.std.proofs.Common.{Err, IfOk, Ok, Result, ◌≡◌, ◌≢◌, ◌<◌, ◌≤◌, ◌-◌, ◌^◌, ◌∙◌, ℕ, List, Option, Some, None, sym, subst, arith}
+use Rattle.vol_base.specs.declared.command.Command.{Command}
+use Rattle.vol_layout.specs.Ranges.{IsGeometry}
+use Rattle.disk_locks.specs.Consistent.{Consistent}
+use Rattle.file_plans.specs.Stands.{At}
+use Rattle.file_plans.specs.Turns.{turns_at}
+use Rattle.file_plans.specs.Went.{LeavesOthers}
+use Rattle.file_plans.specs.declared.plan.FilePlan.{FilePlan}
+use Rattle.file_plans.specs.declared.stage.Stage.{Stage}
+use Rattle.file_plans.specs.declared.stage.Stage.TheVariants as stages
+use Rattle.file_plans.specs.declared.state.Core.{Core}
+use Rattle.file_plans.specs.laws.TurnBoundLaws.{begin_few, supply_sooner}
+use Rattle.file_plans.specs.laws.TurnLastLaws.{turns_last}
+use Rattle.held_cache.specs.Kept.{Cache}
+use Rattle.host_facts.specs.Others.{Others}
+use Rattle.host_facts.specs.Views.{WorldView}
+use Rattle.recover_plan.specs.CallsLeft.{calls_left}
+use Rattle.recover_plan.specs.declared.plan.RecoverPlan.{RecoverPlan}
+use Rattle.recover_plan.specs.laws.CallsLeftLaws.{calls_most, calls_still}
+use Rattle.watch.specs.declared.watch.Look.{Look}
+use Rattle.vol_base.specs.declared.plain.NoMemory.{NoMemory}
+use Rattle.cluster.specs.declared.seat.Done.{Done}
+use Rattle.cluster.specs.PlanTurns.{GoesSooner, IsSooner, turn_limit, plan_left, seat_left}
+use Rattle.cluster.specs.Plans.{IsBegun, PlanAt}
+use Rattle.cluster.specs.Seats.{PlanStandsOf}
+use Rattle.cluster.specs.declared.plan.Plan.{Plan}
+use Rattle.cluster.specs.declared.plan.Plan.TheVariants.{Files, Slots}
+use Rattle.vol_base.specs.declared.answer.Next.{Next}
+
+-- a step on slots leaves fewer, whatever comes behind it
+pub slots_sooner : (v w : WorldView) (c d : Cache) (old new : RecoverPlan) (next : Next) → new.host ≡ old.host
+    → calls_left w old.host new.doing < calls_left v old.host old.doing → IsSooner v c (Slots old) w d (Slots new) next
+slots_sooner v w c d old new next host fewer = λ more.
+    subst (λ (h : ℕ). calls_left w h new.doing < calls_left v old.host old.doing) (sym host) fewer
+
+-- no command has 2 ^ 28 turns at its beginning
+pub begun_few : (v : WorldView) (c : Cache) (h : ℕ) (watch : List (Option Look)) (command : Command) (plan : Plan) → IsGeometry v.locks.geometry
+    → IsBegun h command plan → PlanAt v c h watch plan → plan_left v c plan < 2 ^ 28
+begun_few v c h watch command (Files plan) volume begun at =
+    subst (λ (s : Stage). turns_at v c plan.core s < 2 ^ 28) (sym begun.2.stage) (begin_few v c plan.core volume)
+begun_few v c h watch command (Slots plan) volume begun at =
+    let most = calls_most v h watch plan.doing at.0 in
+    subst (λ (x : ℕ). calls_left v x plan.doing < 2 ^ 28) (sym begun.0)
+    (omega (arith, most, volume.files.1, volume.parts.1, volume.groups.1))
+
+-- and fewer where the digest of its block was handed in
+pub supplied_few : (v : WorldView) (c : Cache) (h : ℕ) (command : Command) (before after : FilePlan) → IsGeometry v.locks.geometry
+    → IsBegun h command (Files before) → before.stage ≡ stages.Asks → At v c before.core before.stage → after.core ≡ before.core
+    → after.stage ≡ stages.Begins → plan_left v c (Files after) < 2 ^ 28 - 1
+supplied_few v c h command before after volume begun asks at core begins =
+    subst (λ (s : Stage). turns_at v c after.core s < 2 ^ 28 - 1) (sym begins)
+    (subst (λ (k : Core). turns_at v c k stages.Begins < 2 ^ 28 - 1) (sym core)
+    (less _ _ (supply_sooner v c before.core volume (subst (λ (s : Stage). At v c before.core s) asks at))
+    (subst (λ (s : Stage). turns_at v c before.core s < 2 ^ 28) (sym begun.2.stage ∙ asks) (begin_few v c before.core volume))))
+  where
+    less : (m n : ℕ) → m < n → n < 2 ^ 28 → m < 2 ^ 28 - 1
+    less m n fewer few = omega (arith, fewer, few)
+
+-- a turn of another host leaves no more of them
+pub seat_stays : (v w : WorldView) (c d : Cache) (h x : ℕ) → Consistent v.locks → Others x v w → LeavesOthers x c d → h ≢ x
+    → (watch : List (Option Look)) (command : Command) (plan : Option Plan) → PlanStandsOf command v c h watch plan
+    → seat_left w d plan ≤ seat_left v c plan
+seat_stays v w c d h x consistent others leaves apart watch command None stands = omega arith
+seat_stays v w c d h x consistent others leaves apart watch command (Some (Files plan)) (of, at) =
+    turns_last v w c d plan.core x consistent others leaves (λ same. apart (sym of.0 ∙ same)) plan.stage at.0
+seat_stays v w c d h x consistent others leaves apart watch command (Some (Slots plan)) (of, at) =
+    same_most _ _ (calls_still v w plan.host x plan.doing others (λ same. apart (sym of.0 ∙ same)))
+  where
+    same_most : (m n : ℕ) → m ≡ n → m ≤ n
+    same_most m n same = omega (arith, same)
+
+-- the turn of a host between two commands that begins a plan is one of that plan
+pub begun_sooner : (v w : WorldView) (c d : Cache) (old : Option Plan) (plan : Plan) (new : Option Plan) → old ≡ None → plan_left v c plan < 2 ^ 28
+    → (result : Result Done NoMemory) → IfOk result (λ done. GoesSooner v c (Some plan) w d new done.ended)
+    → IfOk result (λ done. GoesSooner v c old w d new done.ended)
+begun_sooner v w c d old plan new none few (Ok done) sooner = λ on.
+    subst (λ (p : Option Plan). seat_left w d new < turn_limit v c p) (sym none) (let less = sooner on in omega (arith, less, few))
+begun_sooner v w c d old plan new none few (Err refusal) sooner = tt

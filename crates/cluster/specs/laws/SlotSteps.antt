@@ -1,0 +1,127 @@
+-- A step of a plan on slots is a step of a plan.
+use Rattle.std.proofs.Common.{◌≡◌, ◌≢◌, ℕ, List, Option, Some, None, ap, sym, subst, ◌∙◌}
+use Rattle.vol_base.specs.declared.answer.Answer.TheVariants.{Cut}
+use Rattle.vol_base.specs.declared.answer.CutBy.{CutBy}
+use Rattle.vol_base.specs.declared.answer.Next.{Next}
+use Rattle.vol_base.specs.declared.answer.Next.TheVariants as nexts
+use Rattle.vol_base.specs.declared.answer.Step.{Step}
+use Rattle.vol_base.specs.declared.command.Command.{Command}
+use Rattle.vol_base.specs.declared.command.Command.TheVariants as commands
+use Rattle.vol_layout.specs.declared.geometry.Geometry.{Geometry}
+use Rattle.table_blocks.specs.Tables.{IsPackingOf}
+use Rattle.file_plans.specs.Bases.{IsCached}
+use Rattle.file_plans.specs.Went.{LeavesOthers}
+use Rattle.held_cache.specs.Kept.{Cache, ForgetsHost, IsFileTable, kept_at}
+use Rattle.host_facts.specs.Others.{Others}
+use Rattle.host_facts.specs.Views.{WorldView}
+use Rattle.host_runs.specs.Notes.{Notes}
+use Rattle.plan_parts.specs.Steps.{OwesStep}
+use Rattle.recover_plan.specs.KnownTables.{KeepsTables, TablesStay}
+use Rattle.recover_plan.specs.Nexts as slots
+use Rattle.recover_plan.specs.Plans as plans
+use Rattle.recover_plan.specs.Plans.{Agrees, PlanStands, command_of, step_of}
+use Rattle.recover_plan.specs.declared.plan.Come.{Come}
+use Rattle.recover_plan.specs.declared.plan.Come.TheVariants as comes
+use Rattle.recover_plan.specs.declared.plan.Doing.{Doing}
+use Rattle.recover_plan.specs.declared.plan.RecoverPlan.{RecoverPlan}
+use Rattle.watch.specs.declared.watch.Look.{Look}
+use Rattle.cluster.specs.Plans.{ForgetsBehind, ForgetsFor, HasStepped, NotedBehind, StandsBehind}
+use Rattle.cluster.specs.declared.plan.Plan.TheVariants.{Slots}
+
+-- where nothing is kept for a host, what is kept for it is right
+pub nothing_cached : (w : WorldView) (c d : Cache) (h : ℕ) → c.volume ≡ w.locks.geometry → ForgetsHost c d h → IsCached w d h
+nothing_cached w c d h volume forgets = record {
+  volume = forgets.volume ∙ volume;
+  known = λ t p there kept.
+      let both : None ≡ Some p =
+      sym (forgets.forgotten t (subst (λ (g : Geometry). IsFileTable g t) (sym volume) there)) ∙ kept in absurd cc;
+}
+
+module _ (v w : WorldView) (c d e : Cache) (h : ℕ) (others : Others h v w) (was : IsCached v c h) where
+  geometry : w.locks.geometry ≡ v.locks.geometry
+  geometry = others.locks.lasts.geometry
+
+  -- it stays right where the host knows of its tables what it knew
+  stays : KeepsTables h v w → IsCached w c h
+  stays keeps = record {
+    volume = was.volume ∙ sym geometry;
+    known = λ t p there kept.
+        let known = was.known t p (subst (λ (g : Geometry). IsFileTable g t) geometry there) kept in
+        (keeps t p known.0, subst (λ (g : Geometry). IsPackingOf g t p) (sym geometry) known.1);
+  }
+
+  forgotten : ForgetsHost c d h → (next : Next) → ForgetsBehind next h d e → IsCached w e h
+  forgotten first (nexts.Answered (Cut by)) then = nothing_cached w d e h (first.volume ∙ was.volume ∙ sym geometry) then
+  forgotten first next then = subst (λ (k : Cache). IsCached w k h) (sym then) (nothing_cached w c d h (was.volume ∙ sym geometry) first)
+
+  kept : d ≡ c → (next : Next) → (((by : CutBy) → next ≢ nexts.Answered (Cut by)) → KeepsTables h v w) → ForgetsBehind next h d e → IsCached w e h
+  kept same (nexts.Answered (Cut by)) tables then =
+      nothing_cached w d e h (ap (λ (k : Cache). k.volume) same ∙ was.volume ∙ sym geometry) then
+  kept same next tables then = subst (λ (k : Cache). IsCached w k h) (sym (then ∙ same)) (stays (tables (λ by is. cc)))
+
+  -- behind a step on slots
+  pub slots_cached : (command : Command) (step : Step) → ForgetsFor command h c d → TablesStay h v w command step
+      → ForgetsBehind step.next h d e → IsCached w e h
+  slots_cached commands.Beat step first tables then = kept first step.next (tables tt) then
+  slots_cached (commands.Look of) step first tables then = kept first step.next (tables tt) then
+  slots_cached (commands.Recover of) step first tables then = kept first step.next (tables tt) then
+  slots_cached command step first tables then = forgotten first step.next then
+
+-- what is kept for others stays
+forgets_leaves : (c d : Cache) (h : ℕ) → ForgetsHost c d h → LeavesOthers h c d
+forgets_leaves c d h forgets = record { volume = forgets.volume; others = λ x t can other. forgets.others x t can other }
+
+same_leaves : (c d : Cache) (h : ℕ) → d ≡ c → LeavesOthers h c d
+same_leaves c d h same = record {
+  volume = ap (λ (k : Cache). k.volume) same;
+  others = λ x t can other. ap (λ (k : Cache). kept_at k x t) same;
+}
+
+pub leaves_for : (command : Command) (c d : Cache) (h : ℕ) → ForgetsFor command h c d → LeavesOthers h c d
+leaves_for commands.Beat c d h first = same_leaves c d h first
+leaves_for (commands.Look of) c d h first = same_leaves c d h first
+leaves_for (commands.Recover of) c d h first = same_leaves c d h first
+leaves_for command c d h first = forgets_leaves c d h first
+
+pub leaves_behind : (next : Next) (c d : Cache) (h : ℕ) → ForgetsBehind next h c d → LeavesOthers h c d
+leaves_behind (nexts.Answered (Cut by)) c d h then = forgets_leaves c d h then
+leaves_behind next c d h then = same_leaves c d h then
+
+module _ (command : Command) (v w : WorldView) (e : Cache) (h : ℕ) (watch after : List (Option Look)) (old new : RecoverPlan) (step : Step)
+    (host : new.host ≡ h) (of : command_of old.doing ≡ command) (cached : IsCached w e h) where
+  -- no digest is waited for: no command on slots asks for one
+  quiet_of : (come : Come) → plans.StandsBehind w h after old.doing come → new.doing ≡ plans.later_of come
+      → StandsBehind command w e h after (Slots new) (step_of come).next
+  quiet_of (comes.More later) stands is = (
+    (host, ap command_of is ∙ stands.1 ∙ of),
+    (subst (λ (doing : Doing). PlanStands w h after doing) (sym is) stands.0, cached),
+  )
+  quiet_of (comes.Answered answer) stands is = record { watched = stands; cached = cached }
+  quiet_of (comes.Uncalled answer) stands is = record { watched = stands; cached = cached }
+
+  noted_of : (come : Come) (n : Notes) → plans.Behind h w after come n → new.doing ≡ plans.later_of come
+      → NotedBehind command w h after (Slots new) (step_of come).next n
+  noted_of (comes.More later) n noted is = subst (λ (doing : Doing). Agrees h w after doing n) (sym is) noted
+  noted_of (comes.Answered answer) n noted is = noted
+  noted_of (comes.Uncalled answer) n noted is = noted
+
+  pub slots_stepped : slots.HasStepped h v w watch after old.doing new.doing step
+      → HasStepped command h v w e watch after (Slots old) (Slots new) step
+  slots_stepped did =
+      let owed = subst (λ (k : Command). OwesStep k h v w step (Agrees h v watch old.doing) (plans.Behind h w after did.come)) of did.owes in record {
+        owes = record {
+          made = owed.made;
+          called = owed.called;
+          others = owed.others;
+          quiet = owed.quiet;
+          owes = λ n noted.
+              let (later, owes, behind) = owed.owes n noted in (
+                later,
+                owes,
+                subst (λ (s : Step). NotedBehind command w h after (Slots new) s.next later) (sym did.step_is)
+                    (noted_of did.come later behind did.later_is),
+              );
+        };
+        stands = subst (λ (s : Step). StandsBehind command w e h after (Slots new) s.next) (sym did.step_is)
+            (quiet_of did.come did.stands did.later_is);
+      }

@@ -1,0 +1,54 @@
+-- What stands of a host, and its notes, stay over a turn of another one.
+use Rattle.std.proofs.Common.{◌≡◌, ◌≢◌, ◌<◌, ℕ, List, Option, Some, None, sym, subst, ◌∙◌}
+use Rattle.vol_base.specs.declared.command.Command.{Command}
+use Rattle.vol_layout.specs.declared.geometry.Geometry.{Geometry}
+use Rattle.disk_locks.specs.Consistent.{Consistent}
+use Rattle.file_plans.specs.Bases.{IsCached}
+use Rattle.file_plans.specs.Went.{LeavesOthers}
+use Rattle.file_plans.specs.laws.BaseLaws.{cached_still}
+use Rattle.file_plans.specs.laws.KeptLaws.{cached_again, plan_kept}
+use Rattle.file_plans.specs.laws.PlanStillLaws.{agrees_still, plan_still}
+use Rattle.held_cache.specs.Kept.{Cache}
+use Rattle.host_facts.specs.Others.{Others}
+use Rattle.host_facts.specs.Views.{WorldView}
+use Rattle.host_runs.specs.Awaited.{wanted}
+use Rattle.host_runs.specs.Notes.{Notes}
+use Rattle.recover_plan.specs.HostStays.{HostStays}
+use Rattle.recover_plan.specs.laws.HostStaysLaws.{host_stays}
+use Rattle.watch.specs.declared.watch.Look.{Look}
+use Rattle.cluster.specs.Seats.{PlanNotedOf, PlanStandsOf}
+use Rattle.cluster.specs.declared.plan.Plan.{Plan}
+use Rattle.cluster.specs.declared.plan.Plan.TheVariants.{Files, Slots}
+
+module _ (v w : WorldView) (c d : Cache) (h x : ℕ) (consistent : Consistent v.locks) (others : Others x v w) (leaves : LeavesOthers x c d)
+    (apart : h ≢ x) (below : h < v.locks.geometry.hosts) (watch : List (Option Look)) where
+  stays : HostStays v w h
+  stays = host_stays v w h x consistent others apart
+
+  geometry : w.locks.geometry ≡ v.locks.geometry
+  geometry = others.locks.lasts.geometry
+
+  cached : IsCached v c h → IsCached w d h
+  cached is = cached_again x h c d leaves apart w (subst (λ (g : Geometry). h < g.hosts) (sym geometry) below) (cached_still v w c h x others apart is)
+
+  pub stands_stay : (command : Command) (plan : Option Plan) → PlanStandsOf command v c h watch plan → PlanStandsOf command w d h watch plan
+  stands_stay command None rests = record { watched = stays.watched watch rests.watched; cached = cached rests.cached }
+  stands_stay command (Some (Files plan)) (of, at) = (
+    of,
+    (
+      plan_kept w c d plan.core x leaves (λ same. apart (sym of.0 ∙ same)) plan.stage
+          (plan_still v w c plan.core x consistent others (λ same. apart (sym of.0 ∙ same)) plan.stage at.0),
+      stays.watched watch at.1,
+    ),
+  )
+  stands_stay command (Some (Slots plan)) (of, at) = (of, (stays.plan watch plan.doing at.0, cached at.1))
+
+  pub noted_stays : (command : Command) (plan : Option Plan) (n : Notes) → PlanStandsOf command v c h watch plan
+      → PlanNotedOf command v h watch plan n → PlanNotedOf command w h watch plan n
+  noted_stays command None n stands noted = stays.rests watch n noted
+  noted_stays command (Some (Files plan)) n (of, at) (noted, looks, waits) = (
+    agrees_still command v w plan.core geometry (others.locks.memories plan.core.host (λ same. apart (sym of.0 ∙ same))) plan.stage n noted,
+    looks,
+    subst (λ (g : Geometry). wanted g command n.calls n.digests n.asks ≡ None) (sym geometry) waits,
+  )
+  noted_stays command (Some (Slots plan)) n stands noted = stays.agrees watch plan.doing n noted

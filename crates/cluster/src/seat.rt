@@ -1,0 +1,284 @@
+// A host between two of its turns, and one turn of it.
+ghost use Rattle.std.specs.Prelude.{◌≡◌, ◌<◌, ◌&&◌, IfErr, IfOk, IfSome, IsSome, IsTrue, None, Some, if◌then◌else◌, is_some, true};
+ghost use Rattle.cluster.specs.Dropping.{IsAnsweredAtOnce, IsDroppedIn};
+ghost use Rattle.cluster.specs.Parts.{IsHandedIn, IsWrite};
+ghost use Rattle.cluster.specs.PlanTurns.{GoesSooner};
+ghost use Rattle.cluster.specs.Plans.{IsOf, IsPlanned, IsResting, PlanAt};
+ghost use Rattle.cluster.specs.Seats.{HasMoved, IsKnown, MakesTurn, PlanNotedOf, PlanStandsOf, at_once, is_last, left_behind, less};
+ghost use Rattle.host_runs.specs.Awaited.{first_block};
+ghost use Rattle.host_runs.specs.Notes.{Notes};
+ghost use Rattle.watch.specs.Looks.{nothing};
+ghost use Rattle.workload.specs.Ranges.{is_in_range};
+ghost use Rattle.file_plans.specs.Went.{LeavesOthers};
+ghost use Rattle.host_facts.specs.Others.{Others};
+ghost use Rattle.lock_store.specs.Views.{host_at};
+ghost use Rattle.plan_parts.specs.Cuts.{IsUntouched};
+ghost use Rattle.plan_parts.specs.Steps.{ended_of};
+
+use crate::plan::Plan;
+use held_cache::HeldCache;
+use meta_world::MetaWorld;
+use shared_disk::Device;
+use vol_base::{Answer, Command, CutBy, Digest, HostNo, Next, NoMemory, PlainReply, Step};
+use watch::Watch;
+
+/// A host of the cluster.
+#[derive(Drop)]
+pub struct Seat {
+    /// The plan of its command under way, from the command's first step until its answer.
+    pub plan: Option<Plan>,
+    /// What it remembers of the slots of other hosts.
+    pub watch: Watch,
+    /// The number of device calls until it dies, at least 1; none where no death stands.
+    pub left: Option<u32>,
+}
+
+/// What a turn of a host did beside its device call: the plain reply that got its place in the history, and the answer of the command.
+#[derive(Clone, Copy, Debug, PartialEq, Eq)]
+pub struct Done {
+    pub placed: Option<PlainReply>,
+    pub ended: Option<Answer>,
+}
+
+impl Seat {
+    /// A host that has not begun.
+    pub fn new() -> Seat
+        ensures { result ≡ record { plan = None; watch = nothing; left = None } }
+    {
+        Seat {
+            plan: None,
+            watch: Watch::new(),
+            left: None,
+        }
+    }
+
+    /// One turn of the host with this command. Where there was no memory for it nothing was done, and the host is at its end.
+    pub fn turn<D: Device>(
+        &mut self,
+        host: HostNo,
+        command: &Command,
+        world: &mut MetaWorld<D>,
+        cache: &mut HeldCache,
+    ) -> Result<Done, NoMemory>
+        requires host { host < world.old.locks.geometry.hosts }
+        requires known { IsKnown host command.now }
+        requires range { IsTrue (is_in_range world.old.locks.geometry command.now) }
+        requires stands { PlanStandsOf command.now world.old cache.old host self.old.watch self.old.plan }
+        requires noted { (n : Notes) × PlanNotedOf command.now world.old host self.old.watch self.old.plan n }
+        requires digest { self.old.plan ≡ None → is_some (host_at world.old.locks host).key ≡ true → first_block world.old.locks.geometry command.now ≡ None }
+        ensures made { IfOk result (MakesTurn command.now host world.old world.new cache.new self.old self.new) }
+        ensures sooner { IfOk result (λ done. GoesSooner world.old cache.old self.old.plan world.new cache.new self.new.plan done.ended) }
+        ensures none { IfErr result (λ e. IsUntouched host world.old world.new) }
+        ensures others { Others host world.old world.new }
+        ensures leaves { LeavesOthers host cache.old cache.new }
+    {
+        match self.plan {
+            Some(_) => self.go_on(host, command, world, cache),
+            None => self.begin(host, command, world, cache),
+        }
+    }
+
+    /// Begins a `write` whose digest is handed in. No device call is made.
+    pub fn hand_in(&mut self, host: HostNo, command: &Command, digest: Digest)
+        requires { IsWrite command.now }
+        ensures { IsHandedIn host command.now self.old self.new }
+    {
+        let mut plan = Plan::of(host, command);
+        plan.hand_in(digest);
+        self.plan = Some(plan);
+    }
+
+    // The first turn of a command that asks for no digest.
+    fn begin<D: Device>(
+        &mut self,
+        host: HostNo,
+        command: &Command,
+        world: &mut MetaWorld<D>,
+        cache: &mut HeldCache,
+    ) -> Result<Done, NoMemory>
+        requires host { host < world.old.locks.geometry.hosts }
+        requires known { IsKnown host command.now }
+        requires range { IsTrue (is_in_range world.old.locks.geometry command.now) }
+        requires none { self.old.plan ≡ None }
+        requires stands { IsResting world.old cache.old host self.old.watch }
+        requires noted { (n : Notes) × PlanNotedOf command.now world.old host self.old.watch self.old.plan n }
+        requires digest { is_some (host_at world.old.locks host).key ≡ true → first_block world.old.locks.geometry command.now ≡ None }
+        ensures made { IfOk result (MakesTurn command.now host world.old world.new cache.new self.old self.new) }
+        ensures sooner { IfOk result (λ done. GoesSooner world.old cache.old self.old.plan world.new cache.new self.new.plan done.ended) }
+        ensures none { IfErr result (λ e. IsUntouched host world.old world.new) }
+        ensures others { Others host world.old world.new }
+        ensures leaves { LeavesOthers host cache.old cache.new }
+    {
+        let _geometry = world.locks().geometry();
+        let joined = world.locks().host(host).key.is_some();
+        match at_once(command, joined) {
+            Some(answer) => Ok(self.answer(host, command, answer, world, cache)),
+            None => {
+                self.plan = Some(Plan::of(host, command));
+                self.go_on(host, command, world, cache)
+            }
+        }
+    }
+
+    // A turn of a command that has its plan.
+    fn go_on<D: Device>(
+        &mut self,
+        host: HostNo,
+        command: &Command,
+        world: &mut MetaWorld<D>,
+        cache: &mut HeldCache,
+    ) -> Result<Done, NoMemory>
+        requires host { host < world.old.locks.geometry.hosts }
+        requires known { IsPlanned host command.now }
+        requires stands { IfSome self.old.plan (λ plan. IsOf host command.now plan × PlanAt world.old cache.old host self.old.watch plan) }
+        requires some { IsSome self.old.plan }
+        requires noted { (n : Notes) × PlanNotedOf command.now world.old host self.old.watch self.old.plan n }
+        ensures made { IfOk result (MakesTurn command.now host world.old world.new cache.new self.old self.new) }
+        ensures sooner { IfOk result (λ done. GoesSooner world.old cache.old self.old.plan world.new cache.new self.new.plan done.ended) }
+        ensures none { IfErr result (λ e. IsUntouched host world.old world.new) }
+        ensures others { Others host world.old world.new }
+        ensures leaves { LeavesOthers host cache.old cache.new }
+    {
+        let _geometry = world.locks().geometry();
+        let step = self.step(host, command, world, cache)?;
+        let _later = world.locks().geometry();
+        if self.counts_last(step.called) {
+            self.drop_host(host, world, cache);
+            return Ok(Done {
+                placed: step.placed,
+                ended: Some(Answer::Cut(CutBy::Died)),
+            });
+        }
+        Ok(self.end(&step))
+    }
+
+    // What a step did that was no death. A cut ends a standing death.
+    fn end(&mut self, step: &Step) -> Done
+        ensures done { result ≡ record { placed = step.now.placed; ended = ended_of step.now.next } }
+        ensures left { self.new ≡ record self.old { left = left_behind (ended_of step.now.next) self.old.left } }
+    {
+        if let Next::Answered(Answer::Cut(_)) = step.next {
+            self.left = None;
+        }
+        Done {
+            placed: step.placed,
+            ended: answer_in(step.next),
+        }
+    }
+
+    // One step of the plan, which is kept where its command goes on.
+    fn step<D: Device>(
+        &mut self,
+        host: HostNo,
+        command: &Command,
+        world: &mut MetaWorld<D>,
+        cache: &mut HeldCache,
+    ) -> Result<Step, NoMemory>
+        requires stands { IfSome self.old.plan (λ plan. IsOf host command.now plan × PlanAt world.old cache.old host self.old.watch plan) }
+        requires some { IsSome self.old.plan }
+        requires noted { (n : Notes) × PlanNotedOf command.now world.old host self.old.watch self.old.plan n }
+        ensures stepped { IfOk result (HasMoved command.now host world.old world.new cache.new self.old self.new) }
+        ensures sooner { IfOk result (λ step. GoesSooner world.old cache.old self.old.plan world.new cache.new self.new.plan (ended_of step.next)) }
+        ensures none { IfErr result (λ e. IsUntouched host world.old world.new) }
+        ensures others { Others host world.old world.new }
+        ensures leaves { LeavesOthers host cache.old cache.new }
+    {
+        let Some(mut plan) = self.plan.take() else {
+            unreachable!()
+        };
+        let step = plan.next(host, command, world, cache, &mut self.watch)?;
+        if answer_in(step.next).is_none() {
+            self.plan = Some(plan);
+        }
+        Ok(step)
+    }
+
+    // Counts a device call, if there was one, and tells whether it was the one at which the host dies.
+    fn counts_last(&mut self, called: bool) -> bool
+        ensures last { result ≡ (called && is_last self.old.left) }
+        ensures left { self.new ≡ record self.old { left = (if called then less self.old.left else self.old.left) } }
+    {
+        if !called {
+            return false;
+        }
+        match self.left {
+            None => false,
+            Some(1) => {
+                self.left = None;
+                true
+            }
+            Some(calls) => {
+                self.left = Some(calls.saturating_sub(1));
+                false
+            }
+        }
+    }
+
+    // The answer of a command that needs no plan. A host that is to die at once is dropped.
+    fn answer<D: Device>(
+        &mut self,
+        host: HostNo,
+        command: &Command,
+        answer: Answer,
+        world: &mut MetaWorld<D>,
+        cache: &mut HeldCache,
+    ) -> Done
+        requires host { host < world.old.locks.geometry.hosts }
+        requires cache { cache.old.volume ≡ world.old.locks.geometry }
+        ensures done { result ≡ record { placed = None; ended = Some answer } }
+        ensures left { IsAnsweredAtOnce host command.now answer world.old world.new cache.old cache.new self.old self.new }
+    {
+        if let (Command::Die(calls), Answer::Fine) = (command, answer) {
+            if *calls == 0 {
+                self.drop_host(host, world, cache);
+            } else {
+                self.left = Some(*calls);
+            }
+        }
+        Done {
+            placed: None,
+            ended: Some(answer),
+        }
+    }
+
+    // Drops the host. No device call is made.
+    fn drop_host<D: Device>(
+        &mut self,
+        host: HostNo,
+        world: &mut MetaWorld<D>,
+        cache: &mut HeldCache,
+    )
+        requires host { host < world.old.locks.geometry.hosts }
+        requires cache { cache.old.volume ≡ world.old.locks.geometry }
+        ensures { IsDroppedIn host world.old world.new cache.old cache.new self.new }
+    {
+        world.locks_mut().drop_host(host);
+        cache.forget_host(host);
+        self.plan = None;
+        self.watch = Watch::new();
+        self.left = None;
+    }
+}
+
+// The answer of a command that needs no plan.
+fn at_once(command: &Command, joined: bool) -> Option<Answer>
+    ensures { result ≡ at_once command.now joined }
+{
+    match command {
+        Command::Join if joined => Some(Answer::Up),
+        Command::Join => None,
+        _ if !joined => Some(Answer::Down),
+        Command::Die(_) => Some(Answer::Fine),
+        _ => None,
+    }
+}
+
+// The answer with which a step ends, if it does.
+fn answer_in(next: Next) -> Option<Answer>
+    ensures { result ≡ ended_of next }
+{
+    match next {
+        Next::Answered(answer) => Some(answer),
+        Next::More | Next::Work(_) => None,
+    }
+}
