@@ -12,4 +12,5 @@ pub mod Runs
 pub mod Seats
 pub mod Starts
 pub mod Views
+pub mod Waits
 pub mod laws

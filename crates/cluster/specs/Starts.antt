@@ -1,5 +1,5 @@
 -- The beginning of a cluster.
-use Rattle.std.specs.Prelude.{◌≡◌, ◌≢◌, ◌⊎◌, ◌<◌, ◌≤◌, ℕ, List, [], None, Option, false, length, replicate, slice_index_or}
+use Rattle.std.specs.Prelude.{◌≡◌, ◌≢◌, ◌⊎◌, ◌<◌, ◌≤◌, ◌*◌, ◌^◌, ℕ, List, [], None, Option, false, length, replicate, slice_index_or}
 use Rattle.vol_base.specs.Faults.{Rose}
 use Rattle.vol_layout.specs.Regions.{total}
 use Rattle.vol_layout.specs.declared.geometry.Geometry.{Geometry}
@@ -17,7 +17,8 @@ use Rattle.volume_opening.specs.declared.open_no.OpenNo.{OpenNo}
 use Rattle.volume_opening.specs.declared.open_no.OpenNo.TheVariants as refusals
 use Rattle.cluster.specs.Parts.{IsOpenFrom}
 use Rattle.cluster.specs.Runs.{Facts, Led}
-use Rattle.cluster.specs.Views.{ClusterView, LedgerView, PartsView, disk_of, resting}
+use Rattle.cluster.specs.LinesLeft.{lines_left}
+use Rattle.cluster.specs.Views.{BudgetView, ClusterView, LedgerView, PartsView, disk_of, resting}
 use Rattle.cluster.specs.declared.starting.Room.{Room}
 
 -- each host is at its first line
@@ -36,6 +37,7 @@ pub record IsRoomFor (w : Workload) (room : Room) : Type 0 where
   pub nothing : (host : ℕ) (which : Table) → kept_at room.cache host which ≡ None
   pub heads : AreFirst w.lines w.geometry.hosts room.heads.items
   pub seats : room.seats.items ≡ replicate w.geometry.hosts resting
+  pub budget : room.budget ≡ record { used = replicate w.geometry.hosts 0; left = 0 }
 
 -- the parts and the cluster before the first turn
 abbrev pub first_parts : DiskSeen → Workload → Room → PartsView
@@ -50,8 +52,13 @@ first_parts device w room =
       seats = room.seats.items;
     }
 
+-- all turns of the first phase are left
+abbrev pub first_budget : Workload → Room → BudgetView
+first_budget w room = record room.budget { left = lines_left w.lines room.ledger.answers 0 * 2 ^ 28 }
+
 abbrev pub first_cluster : DiskSeen → Workload → Room → ClusterView
-first_cluster device w room = record { began = device; spent = false; parts = first_parts device w room }
+first_cluster device w room =
+    record { began = device; spent = false; parts = first_parts device w room; budget = first_budget w room }
 
 -- a cluster has started: its device was opened, and it is before its first turn
 pub record HasStarted (old : DiskSeen) (w : Workload) (c : ClusterView) : Type 0 where

@@ -33,11 +33,17 @@ pub record PartsView : Type 0 where
   pub heads : List (Option ℕ)
   pub seats : List Seat
 
--- the device at the beginning, whether a turn was refused memory, and the parts
+-- by host the turns that its command under way has used, and the turns that the phase has left at most
+pub record BudgetView : Type 0 where
+  pub used : List ℕ
+  pub left : ℕ
+
+-- the device at the beginning, whether a turn was refused memory, the parts, and the turns that are left
 pub record ClusterView : Type 0 where
   pub began : DiskSeen
   pub spent : Bool
   pub parts : PartsView
+  pub budget : BudgetView
 
 -- the seat of a host, and the position of its first command without an answer
 abbrev pub resting : Seat

@@ -1,13 +1,16 @@
 // A run of several hosts on one device, one turn at a time.
-ghost use Rattle.std.specs.Prelude.{◌≡◌, ◌↔◌, ◌+◌, ◌<◌, ◌≤◌, IfErr, IfOk, IsErr, IsOk, IsTrue, true, false};
+ghost use Rattle.std.specs.Prelude.{◌≡◌, ◌↔◌, ◌+◌, ◌<◌, ◌≤◌, ℕ, IfErr, IfNone, IfOk, IfSome, None, IsErr, IsOk, IsTrue, true, false};
 ghost use Rattle.cluster.specs.Agreements.{Turned};
 ghost use Rattle.cluster.specs.Runs.{Facts, GoesOn, IsIdle, IsStill, SameStart};
 ghost use Rattle.cluster.specs.Views.{disk_of};
+ghost use Rattle.cluster.specs.Waits.{Tells, has_line, waited_for};
 ghost use Rattle.host_runs.specs.NextLines.{next_line};
 ghost use Rattle.host_runs.specs.Runs.{RunCall};
 ghost use Rattle.shared_disk.specs.Seen.{seen_by};
 ghost use Rattle.vol_base.specs.Grows.{BeginsWith};
+ghost use Rattle.vol_base.specs.Turned.{Lowers, Stays};
 
+use crate::budget::Budget;
 use crate::parts::Parts;
 use crate::start_seen::StartSeen;
 use plain_files::Placed;
@@ -23,19 +26,21 @@ pub struct Cluster<D: Device> {
     pub(crate) parts: Parts<D>,
     /// Whether a turn was refused memory.
     pub(crate) spent: bool,
+    /// The turns that the phase has left.
+    pub(crate) budget: Budget,
     pub(crate) start: StartSeen<D>,
 }
 
 impl<D: Device> Model for Cluster<D> {
-    ghost use Rattle.cluster.specs.Runs.{Inv};
+    ghost use Rattle.cluster.specs.Budgets.{IsKept};
     ghost use Rattle.cluster.specs.Views.{ClusterView};
     ghost use Rattle.shared_disk.specs.Seen.{seen_by};
 
     ghost Value = { ClusterView };
 
-    ghost view = { λ c. record { began = seen_by D.Device c.start.value; spent = c.spent; parts = c.parts } };
+    ghost view = { λ c. record { began = seen_by D.Device c.start.value; spent = c.spent; parts = c.parts; budget = c.budget } };
 
-    ghost invariant = { λ c. Inv (record { began = seen_by D.Device c.start.value; spent = c.spent; parts = c.parts }) };
+    ghost invariant = { λ c. IsKept (record { began = seen_by D.Device c.start.value; spent = c.spent; parts = c.parts; budget = c.budget }) };
 }
 
 /// What a cluster leaves: its device, its workload, the answers of the workload's lines by position, and the history.
@@ -62,13 +67,20 @@ impl<D: Device> Cluster<D> {
         ensures spent { IfErr result (λ e. self.new.spent ≡ true) }
         ensures ever { self.old.spent ≡ true → IsErr result }
         ensures unchanged { self.old.spent ≡ true → self.new ≡ self.old }
+        ensures lowers { IfOk result (λ turn. Lowers turn self.old.budget.left self.new.budget.left) }
+        ensures stays { IfOk result (λ turn. Stays turn self.old self.new) }
+        ensures tells { IfOk result (λ turn. Tells self.old.parts host turn) }
+        ensures nobody { (h : ℕ) → self.old.parts.workload.geometry.hosts ≤ h → has_line self.old.parts h ≡ false }
         ensures room { 0 < (disk_of self.old.parts).room → self.old.spent ≡ false → IsOk result }
     {
         if self.spent {
             return Err(NoMemory);
         }
         match self.parts.turn(host) {
-            Ok(turn) => Ok(turn),
+            Ok(turn) => {
+                self.budget.count(host, &turn);
+                Ok(turn)
+            }
             Err(no) => {
                 self.spent = true;
                 Err(no)
@@ -86,11 +98,16 @@ impl<D: Device> Cluster<D> {
         ensures lists { self.new.parts.ledger ≡ self.old.parts.ledger }
         ensures facts { Facts self.new }
         ensures spent { self.old.spent ≡ true → self.new ≡ self.old }
+        ensures lowers { IfSome (waited_for self.old host) (λ block. self.new.budget.left < self.old.budget.left) }
+        ensures none { IfNone (waited_for self.old host) (self.new ≡ self.old) }
+        ensures supplied { waited_for self.new host ≡ None }
     {
         if self.spent {
             return;
         }
+        let waits = self.parts.awaited(host).is_some();
         self.parts.supply(host, digest);
+        self.budget.supply(host, waits);
     }
 
     /// Whether no host has a command left in the phase.
@@ -105,12 +122,27 @@ impl<D: Device> Cluster<D> {
         requires idle { IsIdle self.old.parts }
         ensures same { SameStart self.old self.new }
         ensures run { self.old.spent ≡ false → result ≡ true → GoesOn self.old RunCall.NextPhase self.new }
-        ensures begun { result ≡ true → self.new ≡ record self.old { parts = record self.old.parts { phase = self.old.parts.phase + 1 } } }
+        ensures begun { result ≡ true → self.new.parts ≡ record self.old.parts { phase = self.old.parts.phase + 1 } }
+        ensures live { self.new.spent ≡ self.old.spent }
         ensures last { result ≡ false → self.old.parts.workload.phases ≤ self.old.parts.phase + 1 }
         ensures unchanged { result ≡ false → self.new ≡ self.old }
         ensures facts { Facts self.new }
     {
-        self.parts.next_phase()
+        if !self.parts.next_phase() {
+            return false;
+        }
+        let lines = self.parts.lines_left();
+        self.budget.begin(lines);
+        true
+    }
+
+    /// How many turns are left of the phase at most, each of which begins a command, goes on with one or answers one; 0 exactly where no host
+    /// has a command left.
+    pub fn left(&self) -> u64
+        ensures value { result ≡ self.now.budget.left }
+        ensures none { (self.now.budget.left ≡ 0) ↔ IsIdle self.now.parts }
+    {
+        self.budget.left()
     }
 
     /// The number of hosts.

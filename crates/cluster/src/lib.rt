@@ -16,11 +16,14 @@
 //! - `idle`, `hosts`, `next_line`, `history`, `answers` and `close` are exact. A cluster is `Begun` and `Counted` (its events), and goes to another
 //!   thread where its device does.
 //! - `Parts`, `Seat` and `Plan`: the inner layers, with the same of the parts of a cluster, of one host, and of one step of a command. Each turn that
-//!   goes on leaves fewer turns of its command, of less than 2^28, and another host's turn leaves no more (`IsSoonerFor`); `Budgets` adds them up.
+//!   goes on leaves fewer turns of its command, of less than 2^28, and another host's turn leaves no more (`IsSoonerFor`).
+//! - `left` adds those turns up: it is 0 exactly where no host has a command left in the phase, and each turn that moves a command or answers it, and
+//!   each digest that is handed in where it is waited for, lowers it. So a cluster is `Turns`, which its hosts' threads may move forward.
 //! - Only tested, by `cluster_tests`: which answers two hosts give turn by turn, with the device calls and the entries behind each turn.
-//! - Not built yet: the trait `Turns`, and the run of a whole schedule.
+//! - Not built yet: the run of a whole schedule.
 #![tactic(auto)]
 
+mod budget;
 mod cluster;
 mod event;
 mod known;
@@ -32,6 +35,7 @@ mod plan;
 mod seat;
 mod start_seen;
 mod starting;
+mod turns;
 
 pub use cluster::{Closed, Cluster};
 pub use event::RunEvent;

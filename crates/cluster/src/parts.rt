@@ -4,6 +4,7 @@ ghost use Rattle.cluster.specs.Agreements.{IsSound, IsStanding, IsSteady, IsUnmo
 ghost use Rattle.cluster.specs.Parts.{HasBegun, IsCommandAt, IsNoted, IsOpenFrom, IsStepped, MayStep, asked_by, asked_of, of_phase};
 ghost use Rattle.cluster.specs.PlanTurns.{GoesSooner, IsSoonerFor, IsSuppliedTurns};
 ghost use Rattle.cluster.specs.Views.{head_at, seat_at};
+ghost use Rattle.cluster.specs.Waits.{Tells};
 ghost use Rattle.disk_locks.specs.Consistent.{Consistent};
 ghost use Rattle.host_runs.specs.NextLines.{next_line};
 ghost use Rattle.host_runs.specs.RunStates.{entry_at, events_at};
@@ -101,6 +102,7 @@ impl<D: Device> Parts<D> {
         requires steady { IsSteady self.old }
         ensures turned { IfOk result (λ turn. Turned self.old host turn self.new) }
         ensures sooner { IfOk result (λ turn. IsSoonerFor self.old host turn self.new) }
+        ensures tells { IfOk result (λ turn. Tells self.old host turn) }
         ensures standing { IfOk result (λ turn. IsStanding self.new) }
         ensures sound { IsSound self.new }
         ensures same { IfErr result (λ e. IsUnmoved self.old self.new) }
@@ -120,6 +122,7 @@ impl<D: Device> Parts<D> {
         requires at { next_line self.old.workload.lines self.old.ledger.answers self.old.phase host ≡ Some position }
         ensures turned { IfOk result (λ turn. Turned self.old host turn self.new) }
         ensures sooner { IfOk result (λ turn. IsSoonerFor self.old host turn self.new) }
+        ensures tells { IfOk result (λ turn. Tells self.old host turn) }
         ensures standing { IfOk result (λ turn. IsStanding self.new) }
         ensures sound { IsSound self.new }
         ensures same { IfErr result (λ e. IsUnmoved self.old self.new) }
@@ -186,6 +189,7 @@ impl<D: Device> Parts<D> {
         requires asks { asked_by self.old host command.now ≡ None }
         ensures turned { IfOk result (λ turn. Turned self.old host turn self.new) }
         ensures sooner { IfOk result (λ turn. IsSoonerFor self.old host turn self.new) }
+        ensures tells { IfOk result (λ turn. Tells self.old host turn) }
         ensures standing { IfOk result (λ turn. IsStanding self.new) }
         ensures sound { IsSound self.new }
         ensures same { IfErr result (λ e. IsUnmoved self.old self.new) }

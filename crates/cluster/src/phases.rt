@@ -1,8 +1,10 @@
 // The phases of a workload.
 ghost use Rattle.std.specs.Prelude.{◌≡◌, ◌↔◌, ◌+◌, ◌<◌, ◌≤◌, IsTrue, true, false};
 ghost use Rattle.cluster.specs.Agreements.{IsSound};
+ghost use Rattle.cluster.specs.PlanTurns.{lines_left_of};
 ghost use Rattle.cluster.specs.Runs.{IsIdle};
 
+use crate::budget::lines_left;
 use crate::parts::Parts;
 use shared_disk::Device;
 
@@ -36,5 +38,18 @@ impl<D: Device> Parts<D> {
         } else {
             false
         }
+    }
+
+    /// How many lines of the phase have no answer.
+    pub fn lines_left(&self) -> u64
+        requires sound { IsSound self.now }
+        ensures is { result ≡ lines_left_of self.now }
+        ensures few { result < 4294967296 }
+    {
+        lines_left(
+            self.workload.lines.as_slice(),
+            self.ledger.answers(),
+            self.phase,
+        )
     }
 }

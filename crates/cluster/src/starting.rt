@@ -10,6 +10,7 @@ ghost use Rattle.shared_disk.specs.Seen.{seen_by};
 ghost use Rattle.vol_layout.specs.Regions.{total};
 ghost use Rattle.workload.specs.Workloads.{IsWorkload};
 
+use crate::budget::{Budget, lines_left};
 use crate::cluster::Cluster;
 use crate::ledger::Ledger;
 use crate::parts::{Parts, next_own};
@@ -31,6 +32,7 @@ pub struct Room {
     pub cache: HeldCache,
     pub heads: Vec<Option<u32>>,
     pub seats: Vec<Seat>,
+    pub budget: Budget,
 }
 
 impl<D: Device> Cluster<D> {
@@ -69,6 +71,8 @@ fn begin<D: Device>(disk: D, workload: Workload, room: Room) -> Cluster<D>
     let _phases = phases_of(&workload);
     let start = StartSeen::of(&disk);
     let locks = Locks::new(disk, workload.geometry);
+    let mut budget = room.budget;
+    budget.begin(lines_left(workload.lines.as_slice(), room.ledger.answers(), 0));
     Cluster {
         parts: Parts {
             world: MetaWorld::new(locks),
@@ -80,6 +84,7 @@ fn begin<D: Device>(disk: D, workload: Workload, room: Room) -> Cluster<D>
             seats: room.seats,
         },
         spent: false,
+        budget,
         start,
     }
 }
@@ -103,6 +108,7 @@ fn take_room(alloc: Global, workload: &Workload) -> Result<Room, NoMemory>
         cache: HeldCache::new(alloc, &workload.geometry)?,
         heads: first_lines(alloc, lines, hosts)?,
         seats: first_seats(alloc, hosts)?,
+        budget: Budget::new(alloc, hosts)?,
     })
 }
 

@@ -1,6 +1,6 @@
 // Two hosts in rounds, who both want the one group of the volume.
 use crate::turns::Gave::{Busy, Done, Joined, Moved, Work};
-use crate::turns::{Row, compare};
+use crate::turns::{Row, compare, left_behind};
 use std::test::Fail;
 
 const TEXT: &[u8] = b"volume 2 2 1 1 1 1
@@ -68,5 +68,21 @@ const ROWS: [Row; 41] = [
 #[test]
 fn two_hosts_want_one_group(rt: HostRuntime) -> Result<(), Fail> {
     compare(&rt, rt.alloc(), TEXT, &ROWS);
+    Ok(())
+}
+
+// A line without an answer has 268,435,456 turns, less those that were made of it. The first phase has six lines, the second one two, and
+// the last one the third of host 1.
+#[test]
+fn each_turn_leaves_fewer(rt: HostRuntime) -> Result<(), Fail> {
+    let alloc = rt.alloc();
+    assert_eq!(&rt; left_behind(alloc, TEXT, &ROWS[..0]), 1_610_612_736);
+    assert_eq!(&rt; left_behind(alloc, TEXT, &ROWS[..1]), 1_610_612_735);
+    assert_eq!(&rt; left_behind(alloc, TEXT, &ROWS[..2]), 1_610_612_734);
+    assert_eq!(&rt; left_behind(alloc, TEXT, &ROWS[..3]), 1_342_177_279);
+    assert_eq!(&rt; left_behind(alloc, TEXT, &ROWS[..4]), 1_073_741_824);
+    assert_eq!(&rt; left_behind(alloc, TEXT, &ROWS[..20]), 0);
+    assert_eq!(&rt; left_behind(alloc, TEXT, &ROWS[..21]), 536_870_911);
+    assert_eq!(&rt; left_behind(alloc, TEXT, &ROWS), 0);
     Ok(())
 }

@@ -30,12 +30,13 @@ pub enum Gave {
 /// One turn: its host, what it gave, and then the device calls since the opening and the entries of the history.
 pub type Row = (HostNo, Gave, u64, usize);
 
-// The calls of the device, and the entries.
+// The calls of the device, the entries, and the turns that are left.
 #[derive(Clone, Copy, Debug, PartialEq, Eq)]
 struct Shown {
     gave: Gave,
     calls: u64,
     entries: usize,
+    left: u64,
 }
 
 /// Compares the turns with these, one after the other: the run is begun anew for each of them, since the calls of its device show where
@@ -50,12 +51,18 @@ pub fn compare(rt: &impl Abort, alloc: Global, text: &[u8], rows: &[Row]) {
     }
 }
 
+/// The turns that are left behind these.
+pub fn left_behind(alloc: Global, text: &[u8], rows: &[Row]) -> u64 {
+    play(alloc, text, rows).left
+}
+
 // The last of so many turns.
 fn play(alloc: Global, text: &[u8], rows: &[Row]) -> Shown {
     let none = Shown {
         gave: Gave::Refused,
         calls: 0,
         entries: 0,
+        left: 0,
     };
     let Ok(workload) = parse(alloc, text) else {
         return none;
@@ -73,11 +80,13 @@ fn play(alloc: Global, text: &[u8], rows: &[Row]) -> Shown {
     for row in rows {
         gave = turn(&mut cluster, row.0);
     }
+    let left = cluster.left();
     let closed = cluster.close();
     Shown {
         gave,
         calls: closed.disk.calls(),
         entries: closed.history.len(),
+        left,
     }
 }
 

@@ -154,7 +154,7 @@ module _ (v : PartsView) (h : ℕ) (u : PartsView) (used : List ℕ) (left : ℕ
   sum_now n = sum_by-set (λ (n : ℕ). n) used h n 0 within_list
 
   -- the turns of a command that begins or goes on are fewer than 2 ^ 28, with the one that it used
-  used_limit : used_at used h + turn_limit_of v h < 2 ^ 28
+  pub used_limit : used_at used h + turn_limit_of v h < 2 ^ 28
   used_limit = cases (seat_at v h).plan refl (budget.are.within h host)
     where
       cases : (plan : Option Plan) → (seat_at v h).plan ≡ plan → used_at used h + seat_left v.world v.cache plan < 2 ^ 28

@@ -1,6 +1,7 @@
 -- How many lines of a phase are left: none exactly where no host is at one, one less behind an answer, and no fewer than hosts are at one.
-use Rattle.std.proofs.Common.{◌≡◌, ◌≢◌, ◌+◌, ◌<◌, ◌≤◌, ◌==◌, ◌&&◌, ◌∙◌, ℕ, zero, suc, Bool, true, false, List, [], ◌∷◌, Option, Some, None, is_none, is_some, length, option_map, slice_get, slice_set, refl, ap, sym, subst, inl, inr, arith}
+use Rattle.std.proofs.Common.{◌≡◌, ◌≢◌, ◌+◌, ◌<◌, ◌≤◌, ◌==◌, ◌&&◌, ◌∙◌, ℕ, zero, suc, Bool, true, false, List, [], ◌∷◌, Option, Some, None, is_none, is_some, drop, get_or, length, option_map, slice_get, slice_set, refl, ap, sym, subst, inl, inr, arith}
 use Rattle.std.specs.Prelude.{if◌then◌else◌}
+use Rattle.std.proofs.lemmas.List.{drop_all, drop_more}
 use Rattle.std.proofs.lemmas.Bool.{cases_Bool, cases_eq, eq-eqb, ne_eqb}
 use Rattle.vol_base.specs.declared.answer.Answer.{Answer}
 use Rattle.workload.specs.declared.line.Line.{Line}
@@ -198,3 +199,27 @@ pub busy_few : (lines : List Line) (answers : List (Option Answer)) (phase n : �
 busy_few lines answers phase n busy at =
     let most = hosts_at_lines lines answers phase n in
     let few = hosts_fewer busy (λ h. is_some (next_line lines answers phase h)) n at in omega (arith, most, few)
+
+-- the lines behind a position, and the one at it
+pub left_at : (lines : List Line) (answers : List (Option Answer)) (phase i : ℕ) (line : Line) → i < length lines → i < length answers
+    → lines_left (drop i lines) (drop i answers) phase
+    ≡ lines_left (drop (i + 1) lines) (drop (i + 1) answers) phase + (if is_open phase (get_or lines i line) (get_or answers i None) then 1 else 0)
+unfolding lines_left
+left_at lines answers phase i line within long =
+    ap (λ (ls : List Line). lines_left ls (drop i answers) phase) (drop_more lines i line within)
+    ∙ ap (λ (given : List (Option Answer)). lines_left (get_or lines i line ∷ drop (i + 1) lines) given phase) (drop_more answers i None long)
+
+pub left_end : (lines : List Line) (answers : List (Option Answer)) (phase i : ℕ) → length lines ≤ i
+    → lines_left (drop i lines) (drop i answers) phase ≡ 0
+unfolding lines_left
+left_end lines answers phase i past = ap (λ (ls : List Line). lines_left ls (drop i answers) phase) (drop_all i lines past)
+
+-- they are counted one after the other
+pub left_more : (lines : List Line) (answers : List (Option Answer)) (phase i : ℕ) (line : Line) (left : ℕ) (is_here : Bool) → i < length lines
+    → length answers ≡ length lines → is_open phase (get_or lines i line) (get_or answers i None) ≡ is_here
+    → left + lines_left (drop i lines) (drop i answers) phase ≡ lines_left lines answers phase
+    → left + (if is_here then 1 else 0) + lines_left (drop (i + 1) lines) (drop (i + 1) answers) phase ≡ lines_left lines answers phase
+left_more lines answers phase i line left is_here within long is sum =
+    let at = left_at lines answers phase i line within (omega (arith, within, long)) in
+    let here = ap {B = ℕ} (λ (b : Bool). if b then 1 else 0) is in
+    omega (arith, at, here, sum)

@@ -1,6 +1,6 @@
 -- What a turn and a digest leave of the phase, the answers, the history and the events.
-use Rattle.std.proofs.Common.{◌≡◌, ℕ, false, List, [], Option, Some, None, refl, ap, sym, ◌∙◌}
-use Rattle.std.proofs.lemmas.List.{append-nil}
+use Rattle.std.proofs.Common.{◌≡◌, ℕ, false, List, [], Option, Some, None, map, refl, ap, sym, ◌∙◌}
+use Rattle.std.proofs.lemmas.List.{append-nil, map-append}
 use Rattle.vol_base.specs.Grows.{BeginsWith}
 use Rattle.vol_base.specs.declared.answer.Turn.{Turn}
 use Rattle.vol_base.specs.declared.answer.Turn.TheVariants.{Answered, Idle, Moved, Work}
@@ -8,9 +8,10 @@ use Rattle.vol_base.specs.declared.block.Block.{Block}
 use Rattle.vol_base.specs.declared.block.Digest.{Digest}
 use Rattle.workload.specs.declared.line.Workload.{Workload}
 use Rattle.host_runs.specs.Awaited.{awaited}
-use Rattle.host_runs.specs.RunStates.{RunState, events_at}
+use Rattle.host_runs.specs.RunStates.{RunEvent, RunState, events_at}
 use Rattle.host_runs.specs.Runs.{IsTurn, Supplies, Turns, supplied}
-use Rattle.cluster.specs.Runs.{Goes, Inv, IsStill}
+use Rattle.cluster.specs.Origins.{origin_of, seen_event}
+use Rattle.cluster.specs.Runs.{Goes, Inv, IsStill, SameStart}
 use Rattle.cluster.specs.Views.{ClusterView, LedgerView, PartsView, state_of}
 
 begins_same : {E : Type 0} (xs ys : List E) → ys ≡ xs → BeginsWith xs ys
@@ -65,3 +66,10 @@ events_still v u still = begins_same v.ledger.events u.ledger.events (ap (λ (l 
 
 pub events_same : (v : PartsView) → BeginsWith v.ledger.events v.ledger.events
 events_same v = begins_same v.ledger.events v.ledger.events refl
+
+-- what a cluster was started from, and its events as they are seen
+pub same_origin : (v u : ClusterView) → SameStart v u → u.parts.phase ≡ v.parts.phase → origin_of u ≡ origin_of v
+same_origin v u same phase = rw (same.workload, same.began, phase) refl
+
+pub seen_grow : (xs ys : List RunEvent) → BeginsWith xs ys → BeginsWith (map seen_event xs) (map seen_event ys)
+seen_grow xs ys (more, is) = (map seen_event more, ap (map seen_event) is ∙ map-append seen_event xs more)

@@ -10,7 +10,7 @@ use Rattle.host_runs.specs.laws.RunLaws.{run-more}
 use Rattle.cluster.specs.Agreements.{Agree, IsSound, IsStanding}
 use Rattle.cluster.specs.Runs.{Goes, GoesOn, Inv, IsIdle, showing}
 use Rattle.cluster.specs.Seats.{PlanNotedOf, PlanStandsOf}
-use Rattle.cluster.specs.Views.{ClusterView, PartsView, at_command, line_of, seat_at, state_of}
+use Rattle.cluster.specs.Views.{BudgetView, ClusterView, PartsView, at_command, line_of, seat_at, state_of}
 use Rattle.cluster.specs.declared.plan.Plan.{Plan}
 use Rattle.cluster.specs.laws.InvLaws.{goes_on}
 use Rattle.cluster.specs.laws.PartsLaws.{line_nobody}
@@ -100,15 +100,30 @@ module _ (v : PartsView) (sound : IsSound v) (idle : IsIdle v) where
   pub goes_next : IsStanding v → v.phase + 1 < v.workload.phases → Goes v NextPhase next
   goes_next standing more notes agree = (notes, record { idle = idle; more = more; phase = refl }, agree_next standing notes agree)
 
+-- nothing but the number of turns left speaks of the budget
+any_budget : (v : ClusterView) (budget : BudgetView) → Inv v → Inv (record v { budget = budget })
+any_budget v budget inv = record {
+  sound = inv.sound;
+  valid = inv.valid;
+  run = record {
+    last = inv.run.last;
+    shown = inv.run.shown;
+    calls = inv.run.calls;
+    notes = inv.run.notes;
+    leads = inv.run.leads;
+  };
+  live = inv.live;
+}
+
 -- whether the next phase began or there was none, the run goes on
-module _ (v : ClusterView) (parts : PartsView) (inv : Inv v) (idle : IsIdle v.parts) (began : Bool)
+module _ (v : ClusterView) (parts : PartsView) (budget : BudgetView) (inv : Inv v) (idle : IsIdle v.parts) (began : Bool)
     (more : began ≡ true → v.parts.phase + 1 < v.parts.workload.phases)
     (begun : began ≡ true → parts ≡ record v.parts { phase = v.parts.phase + 1 })
     (still : began ≡ false → parts ≡ v.parts) where
   abbrev u : ClusterView
-  u = record v { parts = parts }
+  u = record v { parts = parts; budget = budget }
 
-  next_inv : (v.parts.phase + 1 < v.parts.workload.phases) → Inv (record v { parts = next v.parts inv.sound idle })
+  next_inv : (v.parts.phase + 1 < v.parts.workload.phases) → Inv (record v { parts = next v.parts inv.sound idle; budget = budget })
   next_inv is_more = record {
     sound = sound_next v.parts inv.sound idle is_more;
     valid = inv.valid;
@@ -130,8 +145,8 @@ module _ (v : ClusterView) (parts : PartsView) (inv : Inv v) (idle : IsIdle v.pa
   pub phase_inv : Inv u
   phase_inv =
       elim (cases_Bool began) [
-        | inl is ↦ subst (λ (p : PartsView). Inv (record v { parts = p })) (sym (begun is)) (next_inv (more is))
-        | inr none ↦ subst (λ (p : PartsView). Inv (record v { parts = p })) (sym (still none)) inv
+        | inl is ↦ subst (λ (p : PartsView). Inv (record v { parts = p; budget = budget })) (sym (begun is)) (next_inv (more is))
+        | inr none ↦ subst (λ (p : PartsView). Inv (record v { parts = p; budget = budget })) (sym (still none)) (any_budget v budget inv)
       ]
 
   pub phase_on : v.spent ≡ false → began ≡ true → GoesOn v NextPhase u

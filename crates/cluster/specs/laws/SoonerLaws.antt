@@ -92,12 +92,18 @@ module _ (v m : PartsView) (h : ℕ) (command : Command) (done : Done) (sound : 
           others = record { workload = others_left.workload; plan = others_left.plan; left = others_left.left };
         })
 
+-- what a host waits for, by the command that it is at
+pub asked_there : (v : PartsView) (h position : ℕ) → next_line v.workload.lines v.ledger.answers v.phase h ≡ Some position → (command : Command)
+    → IsCommandAt v position command → asked_of v h ≡ asked_by v h command
+asked_there v h position next command at =
+    ap (asked_at v h) (line_there v h position at.line next at.is) ∙ ap (asked_by v h) (sym at.command_is)
+
 -- a digest is handed in
 module _ (v : PartsView) (h position : ℕ) (sound : IsSound v) (standing : IsStanding v) (steady : IsSteady v)
     (next : next_line v.workload.lines v.ledger.answers v.phase h ≡ Some position) (command : Command) (at : IsCommandAt v position command)
     (digest : Digest) where
   asked_is : asked_of v h ≡ asked_by v h command
-  asked_is = ap (asked_at v h) (line_there v h position at.line next at.is) ∙ ap (asked_by v h) (sym at.command_is)
+  asked_is = asked_there v h position next command at
 
   pub unasked_turns : asked_by v h command ≡ None → IsSuppliedTurns v h v
   unasked_turns none = subst (λ (o : Option Block). IsSuppliedFor o v h v) (sym (asked_is ∙ none)) refl

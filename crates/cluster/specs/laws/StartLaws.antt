@@ -26,12 +26,15 @@ use Rattle.watch.specs.Looks.{nothing}
 use Rattle.cluster.specs.Agreements.{Agree, IsHead, IsKnownLine, IsSound, IsStanding, given_in}
 use Rattle.cluster.specs.Parts.{IsOpenFrom}
 use Rattle.cluster.specs.Plans.{IsResting}
+use Rattle.cluster.specs.Budgets.{IsMeasured, used_at}
 use Rattle.cluster.specs.Runs.{Inv, LeadsTo, Led}
 use Rattle.cluster.specs.Seats.{PlanNotedOf, PlanStandsOf}
-use Rattle.cluster.specs.Starts.{AreFirst, IsRoomFor, first_cluster, first_parts}
-use Rattle.cluster.specs.Views.{LedgerView, PartsView, at_command, resting, seat_at, state_of}
+use Rattle.cluster.specs.Starts.{AreFirst, IsRoomFor, first_budget, first_cluster, first_parts}
+use Rattle.cluster.specs.Views.{BudgetView, LedgerView, PartsView, at_command, resting, seat_at, state_of}
 use Rattle.cluster.specs.declared.seat.Seat.{Seat}
 use Rattle.cluster.specs.declared.starting.Room.{Room}
+use Rattle.cluster.specs.laws.BudgetLaws.{budget_begins}
+use Rattle.cluster.specs.laws.MeasureLaws.{measured_by}
 use Rattle.cluster.specs.laws.OpenLaws.{open_begun}
 
 -- the lines of a text stand in the order of their phases, and there is a phase
@@ -192,6 +195,13 @@ module _ (device : DiskSeen) (w : Workload) (room : Room) (is : IsWorkload w) (k
   pub first_run : Led (first_cluster device w room) []
   first_run = ((λ host. no_notes), first_leads, first_agree)
 
+  pub first_measured : IsMeasured (first_cluster device w room)
+  first_measured =
+      measured_by (first_cluster device w room) first_standing
+      (budget_begins v room.budget.used (ap (λ (b : BudgetView). length b.used) ready.budget ∙ length-replicate w.geometry.hosts 0)
+      (λ h host. ap (λ (s : Seat). s.plan) (seat_now h))
+      (λ h host. ap (λ (b : BudgetView). used_at b.used h) ready.budget ∙ each_same w.geometry.hosts 0 h))
+
   pub first_inv : OnImage device.state (IsValid w.geometry device.state.counter) → Inv (first_cluster device w room)
   first_inv valid = record {
     sound = first_sound;
@@ -201,9 +211,9 @@ module _ (device : DiskSeen) (w : Workload) (room : Room) (is : IsWorkload w) (k
   }
 
 -- locks and a world over them that were just made
-pub cluster_is : (device began : DiskSeen) (w : Workload) (room : Room) (locks : LocksView) (world : WorldView) → began ≡ device
+pub cluster_is : (device began : DiskSeen) (w : Workload) (room : Room) (locks : LocksView) (world : WorldView) (budget : BudgetView) → began ≡ device
     → locks ≡ record { disk = device; geometry = w.geometry; hosts = replicate 16 dropped }
-    → world ≡ record { locks = locks; standing = replicate 16 None }
+    → world ≡ record { locks = locks; standing = replicate 16 None } → budget ≡ first_budget w room
     → record {
       began = began;
       spent = false;
@@ -216,5 +226,6 @@ pub cluster_is : (device began : DiskSeen) (w : Workload) (room : Room) (locks :
         heads = room.heads.items;
         seats = room.seats.items;
       };
+      budget = budget;
     } ≡ first_cluster device w room
-cluster_is device began w room locks world same is_locks is_world = rw (is_world, is_locks, same) refl
+cluster_is device began w room locks world budget same is_locks is_world is_budget = rw (is_world, is_locks, same, is_budget) refl

@@ -1,7 +1,7 @@
-use Rattle.std.proofs.Common.{None, Some, ap, arith}
+use Rattle.std.proofs.Common.{None, Some, is_some, ap, ◌∙◌, arith}
 use Rattle.cluster.specs.laws.ActLaws.{entries_there, events_there, may_step, sound_then, standing_then, turned_as}
 use Rattle.cluster.specs.laws.PartsLaws.{line_below, line_within}
-use Rattle.cluster.specs.laws.SoonerLaws.{ended_now, gone_on}
+use Rattle.cluster.specs.laws.SoonerLaws.{asked_there, ended_now, gone_on}
 use Rattle.cluster.proofs.parts.Parts.act.Goals as goal
 
 pub step-requires-clause-host : goal.step-requires-clause-host
@@ -77,3 +77,17 @@ returns-in-None-clause-sooner g c =
     gone_on c.args.self.now c.step.new.self c.args.host c.args.command.now c.in-Ok.done c.requires.sound c.requires.standing c.known.ensures
     (line_below c.args.self.now c.args.host c.requires.sound c.args.position c.requires.at) c.in-Ok.ensures.stepped c.args.position c.requires.at
     c.note.new.self c.note.ensures c.in-Ok.ensures.sooner c.in-None.is
+
+pub returns-in-Some-clause-tells : goal.returns-in-Some-clause-tells
+returns-in-Some-clause-tells g c =
+    record {
+      at = ap is_some c.requires.at;
+      asks = asked_there c.args.self.now c.args.host c.args.position c.requires.at c.args.command.now c.requires.command ∙ c.requires.asks;
+    }
+
+pub returns-in-None-clause-tells : goal.returns-in-None-clause-tells
+returns-in-None-clause-tells g c =
+    record {
+      at = ap is_some c.requires.at;
+      asks = asked_there c.args.self.now c.args.host c.args.position c.requires.at c.args.command.now c.requires.command ∙ c.requires.asks;
+    }

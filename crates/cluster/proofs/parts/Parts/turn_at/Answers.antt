@@ -1,5 +1,6 @@
 use Rattle.std.proofs.Common.{sym, ◌∙◌}
 use Rattle.cluster.specs.laws.PartsLaws.{line_below, line_within}
+use Rattle.cluster.specs.laws.SoonerLaws.{asked_there}
 use Rattle.cluster.specs.laws.WaitLaws.{waits_turn}
 use Rattle.cluster.proofs.parts.Parts.turn_at.Goals as goal
 
@@ -13,3 +14,8 @@ pub returns-in-Some-clause-turned : goal.returns-in-Some-clause-turned
 returns-in-Some-clause-turned g c =
     waits_turn c.args.self.now c.args.host c.args.position c.requires.sound c.requires.standing c.requires.steady c.requires.at
     c.command-command.result c.command-command.ensures c.in-Some.block (sym c.asked.ensures ∙ c.in-Some.is)
+
+pub returns-in-Some-clause-tells : goal.returns-in-Some-clause-tells
+returns-in-Some-clause-tells g c =
+    asked_there c.args.self.now c.args.host c.args.position c.requires.at c.command-command.result c.command-command.ensures
+    ∙ sym c.asked.ensures ∙ c.in-Some.is
