@@ -1,7 +1,7 @@
 // A run of several hosts on one device, one turn at a time.
 ghost use Rattle.std.specs.Prelude.{◌≡◌, ◌↔◌, ◌+◌, ◌<◌, ◌≤◌, ℕ, IfErr, IfNone, IfOk, IfSome, None, IsErr, IsOk, IsTrue, true, false};
-ghost use Rattle.cluster.specs.Agreements.{Turned};
-ghost use Rattle.cluster.specs.Runs.{Facts, GoesOn, IsIdle, IsStill, SameStart};
+ghost use Rattle.cluster.specs.Agreements.{Supplied, Turned};
+ghost use Rattle.cluster.specs.Runs.{Facts, Goes, GoesOn, IsIdle, IsStill, SameStart};
 ghost use Rattle.cluster.specs.Views.{disk_of};
 ghost use Rattle.cluster.specs.Waits.{Tells, has_line, waited_for};
 ghost use Rattle.host_runs.specs.NextLines.{next_line};
@@ -92,6 +92,7 @@ impl<D: Device> Cluster<D> {
     /// the cluster.
     pub fn supply(&mut self, host: HostNo, digest: Digest)
         ensures same { SameStart self.old self.new }
+        ensures noted { self.old.spent ≡ false → Supplied self.old.parts host digest self.new.parts }
         ensures run { self.old.spent ≡ false → GoesOn self.old (RunCall.Supplies host digest) self.new }
         ensures live { self.new.spent ≡ self.old.spent }
         ensures phase { self.new.parts.phase ≡ self.old.parts.phase }
@@ -121,6 +122,7 @@ impl<D: Device> Cluster<D> {
     pub fn next_phase(&mut self) -> bool
         requires idle { IsIdle self.old.parts }
         ensures same { SameStart self.old self.new }
+        ensures goes { self.old.spent ≡ false → result ≡ true → Goes self.old.parts RunCall.NextPhase self.new.parts }
         ensures run { self.old.spent ≡ false → result ≡ true → GoesOn self.old RunCall.NextPhase self.new }
         ensures begun { result ≡ true → self.new.parts ≡ record self.old.parts { phase = self.old.parts.phase + 1 } }
         ensures live { self.new.spent ≡ self.old.spent }

@@ -9,7 +9,8 @@
 //!   each answer has its cause), for every death, failure, fencing and recovery. So whatever calls led from the start to the state before, they
 //!   lead with this one to the state behind (`GoesOn`). A turn is refused memory only where its device has no room left (`room`), or an
 //!   earlier one was refused (`ever`); it leaves all that a run sees then (`IsStill`).
-//! - `Cluster::supply` and `next_phase`: the same of a digest that is handed in, and of the next phase, which begins where all hosts are idle.
+//! - `Cluster::supply` and `next_phase`: the same of a digest that is handed in, and of the next phase, which begins where all hosts are idle
+//!   (`Supplied`, `Goes`).
 //! - `Facts`, behind each of them and of `close`: there was a run from the start whose last state is the present one. Answers and history fit the
 //!   workload; where the device tells its content, the history is legal from the files that its first image has, the last image is valid and
 //!   has the files that the history leaves, and each image on the way has those of a front; and the events list the history and the answers.

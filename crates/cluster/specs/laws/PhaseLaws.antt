@@ -149,8 +149,11 @@ module _ (v : ClusterView) (parts : PartsView) (budget : BudgetView) (inv : Inv 
         | inr none ↦ subst (λ (p : PartsView). Inv (record v { parts = p; budget = budget })) (sym (still none)) (any_budget v budget inv)
       ]
 
+  pub phase_goes : v.spent ≡ false → began ≡ true → Goes v.parts NextPhase parts
+  phase_goes live is =
+      subst (λ (p : PartsView). Goes v.parts NextPhase p) (sym (begun is)) (goes_next v.parts inv.sound idle (inv.live live).2 (more is))
+
   pub phase_on : v.spent ≡ false → began ≡ true → GoesOn v NextPhase u
   phase_on live is =
-      let goes = goes_next v.parts inv.sound idle (inv.live live).2 (more is) in
       goes_on v u (record { began = refl; workload = ap (λ (p : PartsView). p.workload) (begun is) }) NextPhase
-      (subst (λ (p : PartsView). Goes v.parts NextPhase p) (sym (begun is)) goes)
+      (phase_goes live is)

@@ -2,11 +2,11 @@ use Rattle.std.proofs.Common.{◌*◌, ◌^◌, ℕ, refl, sym, subst, ap, ◌�
 use Rattle.shared_disk.specs.Seen.{seen_by}
 use Rattle.host_runs.specs.Runs.{NextPhase}
 use Rattle.cluster.specs.Budgets.{IsMeasured}
-use Rattle.cluster.specs.Runs.{GoesOn, IsIdle}
+use Rattle.cluster.specs.Runs.{Goes, GoesOn, IsIdle}
 use Rattle.cluster.specs.Views.{BudgetView, ClusterView, PartsView}
 use Rattle.cluster.specs.laws.InvLaws.{facts_of}
 use Rattle.cluster.specs.laws.MeasureLaws.{measured_phase}
-use Rattle.cluster.specs.laws.PhaseLaws.{phase_inv, phase_on}
+use Rattle.cluster.specs.laws.PhaseLaws.{phase_goes, phase_inv, phase_on}
 use Rattle.cluster.proofs.cluster.Cluster.next_phase.Goals as goal
 
 pub next_phase-requires-clause-sound : goal.next_phase-requires-clause-sound
@@ -81,3 +81,13 @@ returns-clause-run g c =
 
 pub returns-clause-facts : goal.returns-clause-facts
 returns-clause-facts g c = facts_of _ (invariant_of-self-2 g c).inv
+
+pub returns-clause-goes : goal.returns-clause-goes
+returns-clause-goes g c =
+    λ live is. subst (λ (v : ClusterView). Goes v.parts NextPhase c.next_phase.new.self) c.self.view_is
+    (phase_goes _ c.next_phase.new.self c.begin.new.self c.self.invariant.inv
+    (subst (λ (v : ClusterView). IsIdle v.parts) (sym c.self.view_is) c.requires.idle) c.next_phase.result c.next_phase.ensures.more
+    c.next_phase.ensures.begun c.next_phase.ensures.same (ap (λ (v : ClusterView). v.spent) c.self.view_is ∙ live) c.if-not-next_phase.false)
+
+pub returns-then-not-next_phase-clause-goes : goal.returns-then-not-next_phase-clause-goes
+returns-then-not-next_phase-clause-goes g c = λ live is. absurd cc

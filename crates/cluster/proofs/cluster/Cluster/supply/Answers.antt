@@ -1,8 +1,9 @@
-use Rattle.std.proofs.Common.{is_some, refl, sym, subst, ap, ◌∙◌}
+use Rattle.std.proofs.Common.{true, false, is_some, refl, sym, subst, ap, ◌∙◌}
 use Rattle.std.specs.Prelude.{◌≡◌, ◌<◌, IfNone, IfSome, None, Option}
 use Rattle.vol_base.specs.declared.block.Block.{Block}
 use Rattle.shared_disk.specs.Seen.{seen_by}
 use Rattle.host_runs.specs.Runs.{Supplies}
+use Rattle.cluster.specs.Agreements.{Supplied}
 use Rattle.cluster.specs.Budgets.{IsMeasured}
 use Rattle.cluster.specs.Runs.{Facts, GoesOn}
 use Rattle.cluster.specs.Views.{BudgetView, ClusterView}
@@ -140,3 +141,11 @@ returns-clause-supplied g c =
     (none_supply v c.args.host c.supply.new.self c.is_some-waits.result c.self.invariant.inv.sound c.if-self.false
     c.self.invariant.measured c.supply.ensures.turns c.supply.ensures.standing
     (sym (c.is_some-waits.ensures ∙ ap is_some c.awaited.ensures)))
+
+pub returns-clause-noted : goal.returns-clause-noted
+returns-clause-noted g c =
+    λ live. subst (λ (v : ClusterView). Supplied v.parts c.args.host c.args.digest c.supply.new.self) c.self.view_is c.supply.ensures.supplied
+
+pub returns-then-self-clause-noted : goal.returns-then-self-clause-noted
+returns-then-self-clause-noted g c =
+    λ live. let both : true ≡ false = sym c.if-self.true ∙ ap (λ (v : ClusterView). v.spent) c.self.view_is ∙ live in absurd cc
