@@ -126,6 +126,7 @@ impl<D: Device> Cluster<D> {
         ensures run { self.old.spent ≡ false → result ≡ true → GoesOn self.old RunCall.NextPhase self.new }
         ensures begun { result ≡ true → self.new.parts ≡ record self.old.parts { phase = self.old.parts.phase + 1 } }
         ensures live { self.new.spent ≡ self.old.spent }
+        ensures more { result ≡ true → self.old.parts.phase + 1 < self.old.parts.workload.phases }
         ensures last { result ≡ false → self.old.parts.workload.phases ≤ self.old.parts.phase + 1 }
         ensures unchanged { result ≡ false → self.new ≡ self.old }
         ensures facts { Facts self.new }
@@ -147,9 +148,10 @@ impl<D: Device> Cluster<D> {
         self.budget.left()
     }
 
-    /// The number of hosts.
+    /// The number of hosts; a number from there on has no command.
     pub fn hosts(&self) -> HostNo
-        ensures { result ≡ self.now.parts.workload.geometry.hosts }
+        ensures value { result ≡ self.now.parts.workload.geometry.hosts }
+        ensures nobody { (h : ℕ) → result ≤ h → has_line self.now.parts h ≡ false }
     {
         self.parts.hosts()
     }

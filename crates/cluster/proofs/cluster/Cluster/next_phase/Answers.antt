@@ -1,4 +1,4 @@
-use Rattle.std.proofs.Common.{◌*◌, ◌^◌, ℕ, refl, sym, subst, ap, ◌∙◌}
+use Rattle.std.proofs.Common.{◌+◌, ◌<◌, ◌*◌, ◌^◌, ℕ, refl, sym, subst, ap, ◌∙◌}
 use Rattle.shared_disk.specs.Seen.{seen_by}
 use Rattle.host_runs.specs.Runs.{NextPhase}
 use Rattle.cluster.specs.Budgets.{IsMeasured}
@@ -91,3 +91,8 @@ returns-clause-goes g c =
 
 pub returns-then-not-next_phase-clause-goes : goal.returns-then-not-next_phase-clause-goes
 returns-then-not-next_phase-clause-goes g c = λ live is. absurd cc
+
+pub returns-clause-more : goal.returns-clause-more
+returns-clause-more g c =
+    λ begun. subst (λ (v : ClusterView). v.parts.phase + 1 < v.parts.workload.phases) c.self.view_is
+    (c.next_phase.ensures.more c.if-not-next_phase.false)
