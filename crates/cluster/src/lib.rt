@@ -21,7 +21,7 @@
 //! - `left` adds those turns up: it is 0 exactly where no host has a command left in the phase, and each turn that moves a command or answers it, and
 //!   each digest that is handed in where it is waited for, lowers it. So a cluster is `Turns`, which its hosts' threads may move forward.
 //! - Only tested, by `cluster_tests`: which answers two hosts give turn by turn, with the device calls and the entries behind each turn.
-//! - Not built yet: the run of a whole schedule.
+//! - A whole schedule is played by the crate above, `schedule`.
 #![tactic(auto)]
 
 mod budget;
