@@ -1,15 +1,17 @@
 #!/usr/bin/env python3
-"""Times the jobs of dede from outside: sim, a refused text, and check on a full volume.
+"""Times the jobs of dede from outside: sim of one and of four hosts, a refused text, and check on a full volume.
 
 Usage: bench/jobs.py [PROGRAM [ROUNDS]]
 
-Build the program first: `examples/first.sh` leaves it as crates/dede/out/dede. Each time is the median of
-the rounds, and in brackets the least and the greatest; memory is the greatest resident size of a round.
-The plain loop makes the same 4 KiB reads and writes of the data blocks, one pread or pwrite a command.
+Build the program first: `rt run` in crates/dede leaves it as crates/dede/out/dede. Each time is the median of the rounds, and in brackets the
+least and the greatest; memory is the greatest resident size of a round. The plain loop makes the reads and writes of the volume file that
+`strace` saw the program make, at the same places and in the same order, and nothing else.
 """
 import os
+import re
 import statistics
 import struct
+import subprocess
 import sys
 import tempfile
 import time
@@ -38,34 +40,43 @@ def run(program, words, stdin, wanted):
     return seconds, usage.ru_maxrss
 
 
-def transfers(commands):
-    """The blocks that a workload of so many commands writes and reads: each is written, then read."""
-    rest = commands - 1 - 2 * FILES
-    return [(n % 2 == 0, n // 2 % FILES, n // 2 // FILES) for n in range(rest)]
-
-
-def workload(commands):
-    moved = transfers(commands)
-    length = max(index for _, _, index in moved) + 1
-    lines = ["volume 1 64 64 1 1 1", "0 join"]
-    lines += [f"0 create {file}" for file in range(FILES)]
-    lines += [f"0 size {file} {length}" for file in range(FILES)]
-    for writes, file, index in moved:
-        lines.append(f"0 write {file} {index} {file + index}" if writes else f"0 read {file} {index}")
+def workload(hosts, commands):
+    """So many commands: each host makes its files, and then writes a block that was a hole, reads it, writes it in place and punches it."""
+    own = FILES // hosts
+    rest = commands - hosts - 2 * FILES
+    length = rest // 4 // FILES + 1
+    lines = [f"volume {hosts} {FILES} {FILES} 1 1 1"]
+    lines += [f"{host} join" for host in range(hosts)]
+    for file in range(FILES):
+        lines += [f"{file // own} create {file}", f"{file // own} size {file} {length}"]
+    for n in range(rest):
+        turn, host = n // 4 // hosts, n // 4 % hosts
+        at = f"{host * own + turn % own} {turn // own}"
+        lines.append(f"{host} " + (f"write {at} {n}", f"read {at}", f"write {at} {n}", f"punch {at}")[n % 4])
     return "\n".join(lines).encode() + b"\n"
 
 
-def plain_loop(path, commands):
-    """The same reads and writes, without tables."""
-    block = bytes(BLOCK)
+def device_calls(program, volume, text, folder):
+    """The calls of a run on the volume file, in order: what to call, with which bytes or how many, and at which byte."""
+    trace = f"{folder}/trace"
+    traced = ["strace", "-qq", "-f", "-s", "0", "-e", "trace=pread64,pwrite64", "-P", volume, "-o", trace]
+    subprocess.run([*traced, program, volume, "sim"], input=text, stdout=subprocess.DEVNULL, check=True)
+    block, calls = bytes(BLOCK), []
+    with open(trace) as lines:
+        for line in lines:
+            call = re.search(r"\bp(read|write)64\(\d+, .*, (\d+), (\d+)\)\s+= ", line)
+            if call and call[1] == "read":
+                calls.append((os.pread, int(call[2]), int(call[3])))
+            elif call:
+                calls.append((os.pwrite, block[: int(call[2])], int(call[3])))
+    return calls
+
+
+def plain_loop(path, calls):
     start = time.perf_counter()
     disk = os.open(path, os.O_RDWR | os.O_CREAT)
-    for writes, file, index in transfers(commands):
-        place = BLOCK * (file * PER_TABLE + index)
-        if writes:
-            os.pwrite(disk, block, place)
-        else:
-            os.pread(disk, BLOCK, place)
+    for call, what, place in calls:
+        call(disk, what, place)
     os.close(disk)
     return time.perf_counter() - start
 
@@ -107,10 +118,30 @@ def cell(seconds):
     return f"{middle} ({low} to {high})"
 
 
-def timed(rounds, body):
-    """Seconds of each round, and the greatest resident size in MiB."""
-    results = [body() for _ in range(rounds)]
-    return cell([seconds for seconds, _ in results]), f"{max(size for _, size in results) / 1024:.1f}"
+def fresh(path):
+    if os.path.exists(path):
+        os.remove(path)
+    return path
+
+
+def sim_row(program, folder, hosts, commands, rounds):
+    text = workload(hosts, commands)
+    volume, plain = f"{folder}/volume", f"{folder}/plain"
+    calls = device_calls(program, fresh(volume), text, folder)
+    runs, loops = [], []
+    for _ in range(rounds):
+        runs.append(run(program, [fresh(volume), "sim"], text, 0))
+        loops.append(plain_loop(fresh(plain), calls))
+    seconds = [of_run for of_run, _ in runs]
+    times = statistics.median(seconds) / statistics.median(loops)
+    memory = max(size for _, size in runs) / 1024
+    print(f"| {hosts} | {commands:,} | {len(calls):,} | {cell(seconds)} | {cell(loops)} | {times:.1f} | {memory:.1f} |", flush=True)
+
+
+def job_row(program, words, stdin, wanted, title, rounds):
+    results = [run(program, words, stdin, wanted) for _ in range(rounds)]
+    memory = max(size for _, size in results) / 1024
+    print(f"| {title} | {cell([seconds for seconds, _ in results])} | {memory:.1f} |", flush=True)
 
 
 def main():
@@ -119,31 +150,19 @@ def main():
     rounds = int(given[1]) if len(given) > 1 else 5
     load = os.getloadavg()[0]
     with tempfile.TemporaryDirectory() as folder:
-        volume, plain = f"{folder}/volume", f"{folder}/plain"
-
-        def sim(text):
-            if os.path.exists(volume):
-                os.remove(volume)
-            return run(program, [volume, "sim"], text, 0)
-
-        print("| Commands | `sim`, seconds | Peak memory, MiB | Plain loop, seconds |")
-        print("|---|---|---|---|")
-        for commands in (1000, 4000, 16000):
-            text = workload(commands)
-            seconds, memory = timed(rounds, lambda: sim(text))
-            loops = cell([plain_loop(plain, commands) for _ in range(rounds)])
-            print(f"| {commands:,} | {seconds} | {memory} | {loops} |")
-        print()
-        print("| Job | Seconds | Peak memory, MiB |")
-        print("|---|---|---|")
+        print("| Hosts | Commands | Device calls | `sim`, seconds | Plain loop, seconds | Times | Peak memory, MiB |")
+        print("|---|---|---|---|---|---|---|")
+        for hosts in (1, 4):
+            for commands in (1000, 4000, 16000):
+                sim_row(program, folder, hosts, commands, rounds)
+        print("\n| Job | Seconds | Peak memory, MiB |\n|---|---|---|")
+        volume = f"{folder}/volume"
         text = refused_text()
-        seconds, memory = timed(rounds, lambda: run(program, [volume, "sim"], text, 2))
-        print(f"| `sim` of a text of {len(text):,} bytes, refused at its last line | {seconds} | {memory} |")
+        title = f"`sim` of a text of {len(text):,} bytes, refused at its last line"
+        job_row(program, [volume, "sim"], text, 2, title, rounds)
         full_volume(volume)
-        seconds, memory = timed(rounds, lambda: run(program, [volume, "check"], b"", 0))
-        print(f"| `check` of a full volume of 65,217 blocks | {seconds} | {memory} |")
-        print()
-        print(f"{rounds} rounds, {os.cpu_count()} processors, load {load:.1f} before.")
+        job_row(program, [volume, "check"], b"", 0, "`check` of a full volume of 65,217 blocks", rounds)
+        print(f"\n{rounds} rounds, {os.cpu_count()} processors, load {load:.1f} before.")
 
 
 if __name__ == "__main__":

@@ -10,6 +10,7 @@ pub mod FileSteps
 pub mod InvLaws
 pub mod LinesLeftLaws
 pub mod ListLaws
+pub mod MarkLaws
 pub mod MeasureLaws
 pub mod OpenLaws
 pub mod OpenedLaws

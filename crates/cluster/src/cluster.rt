@@ -156,6 +156,13 @@ impl<D: Device> Cluster<D> {
         self.parts.hosts()
     }
 
+    /// Whether a turn was refused memory, so that every later one is.
+    pub fn is_spent(&self) -> bool
+        ensures { result ≡ self.now.spent }
+    {
+        self.spent
+    }
+
     /// The position of the line that a host is at; `None` exactly where it has no command left in the phase.
     pub fn next_line(&self, host: HostNo) -> Option<u32>
         ensures { result ≡ next_line self.now.parts.workload.lines self.now.parts.ledger.answers self.now.parts.phase host }

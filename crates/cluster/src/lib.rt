@@ -14,7 +14,7 @@
 //! - `Facts`, behind each of them and of `close`: there was a run from the start whose last state is the present one. Answers and history fit the
 //!   workload; where the device tells its content, the history is legal from the files that its first image has, the last image is valid and
 //!   has the files that the history leaves, and each image on the way has those of a front; and the events list the history and the answers.
-//! - `idle`, `hosts`, `next_line`, `history`, `answers` and `close` are exact. A cluster is `Begun` and `Counted` (its events), and goes to another
+//! - `idle`, `hosts`, `is_spent`, `next_line`, `history`, `answers` and `close` are exact. A cluster is `Begun` and `Counted` (its events), and goes to another
 //!   thread where its device does.
 //! - `Parts`, `Seat` and `Plan`: the inner layers, with the same of the parts of a cluster, of one host, and of one step of a command. Each turn that
 //!   goes on leaves fewer turns of its command, of less than 2^28, and another host's turn leaves no more (`IsSoonerFor`).
@@ -29,6 +29,7 @@ mod cluster;
 mod event;
 mod known;
 mod ledger;
+mod mark;
 mod origin;
 mod parts;
 mod phases;

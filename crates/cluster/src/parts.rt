@@ -1,5 +1,5 @@
 // The hosts over their one world, and one turn of one of them.
-ghost use Rattle.std.specs.Prelude.{◌≡◌, ◌+◌, ◌++◌, ◌*◌, ◌<◌, ◌≤◌, ◌&&◌, IfErr, IfOk, IsSome, None, Some, is_none, is_some, length};
+ghost use Rattle.std.specs.Prelude.{◌≡◌, ◌+◌, ◌++◌, ◌*◌, ◌<◌, ◌≤◌, ◌&&◌, IfErr, IfOk, IsSome, None, Some, is_none, is_some, length, slice_get};
 ghost use Rattle.cluster.specs.Agreements.{IsSound, IsStanding, IsSteady, IsUnmoved, Supplied, Turned};
 ghost use Rattle.cluster.specs.Parts.{HasBegun, IsCommandAt, IsNoted, IsOpenFrom, IsStepped, MayStep, asked_by, asked_of, of_phase};
 ghost use Rattle.cluster.specs.PlanTurns.{GoesSooner, IsSoonerFor, IsSuppliedTurns};
@@ -232,6 +232,7 @@ impl<D: Device> Parts<D> {
     // Notes what a turn did: its entry and its answer; and behind an answer the host is at its next line.
     fn note(&mut self, host: HostNo, position: u32, done: &Done)
         requires host { host < length self.old.heads }
+        requires without { slice_get self.old.ledger.answers position ≡ Some None }
         requires position { position < length self.old.workload.lines }
         requires few { length self.old.workload.lines < 4294967296 }
         requires long { length self.old.ledger.answers ≡ length self.old.workload.lines }

@@ -162,7 +162,7 @@ impl Seat {
         }
         Done {
             placed: step.placed,
-            ended: answer_in(step.next),
+            ended: answer_in(&step.next),
         }
     }
 
@@ -183,12 +183,12 @@ impl Seat {
         ensures others { Others host world.old world.new }
         ensures leaves { LeavesOthers host cache.old cache.new }
     {
-        let Some(mut plan) = self.plan.take() else {
+        let Some(plan) = &mut self.plan else {
             unreachable!()
         };
         let step = plan.next(host, command, world, cache, &mut self.watch)?;
-        if answer_in(step.next).is_none() {
-            self.plan = Some(plan);
+        if answer_in(&step.next).is_some() {
+            self.plan = None;
         }
         Ok(step)
     }
@@ -274,11 +274,11 @@ fn at_once(command: &Command, joined: bool) -> Option<Answer>
 }
 
 // The answer with which a step ends, if it does.
-fn answer_in(next: Next) -> Option<Answer>
-    ensures { result ≡ ended_of next }
+fn answer_in(next: &Next) -> Option<Answer>
+    ensures { result ≡ ended_of next.now }
 {
     match next {
-        Next::Answered(answer) => Some(answer),
+        Next::Answered(answer) => Some(*answer),
         Next::More | Next::Work(_) => None,
     }
 }

@@ -1,4 +1,6 @@
 // Turns of a cluster, and what each of them gave.
+ghost use Rattle.std.specs.Prelude.{◌≡◌, IfSome, false};
+
 use cluster::{Cluster, are_known};
 use shared_disk::{Device, MemDisk};
 use std::alloc::Global;
@@ -64,16 +66,7 @@ fn play(alloc: Global, text: &[u8], rows: &[Row]) -> Shown {
         entries: 0,
         left: 0,
     };
-    let Ok(workload) = parse(alloc, text) else {
-        return none;
-    };
-    if !are_known(workload.lines.as_slice()) {
-        return none;
-    }
-    let Ok(disk) = MemDisk::new(alloc, workload.geometry.total()) else {
-        return none;
-    };
-    let Ok(mut cluster) = Cluster::start(alloc, disk, workload) else {
+    let Some(mut cluster) = started(alloc, text) else {
         return none;
     };
     let mut gave = Gave::Other;
@@ -88,6 +81,20 @@ fn play(alloc: Global, text: &[u8], rows: &[Row]) -> Shown {
         entries: closed.history.len(),
         left,
     }
+}
+
+/// A cluster over a new device in memory, before its first turn.
+pub fn started(alloc: Global, text: &[u8]) -> Option<Cluster<MemDisk>>
+    ensures live { IfSome result (λ cluster. cluster.spent ≡ false) }
+{
+    let Ok(workload) = parse(alloc, text) else {
+        return None;
+    };
+    if !are_known(workload.lines.as_slice()) {
+        return None;
+    }
+    let disk = MemDisk::new(alloc, workload.geometry.total()).ok()?;
+    Cluster::start(alloc, disk, workload).ok()
 }
 
 // One turn, in the next phase where all hosts are idle; a digest is handed in at once.
@@ -107,7 +114,8 @@ fn turn(cluster: &mut Cluster<MemDisk>, host: HostNo) -> Gave {
     }
 }
 
-fn gave_of(answer: &Answer) -> Gave {
+/// What an answer gives.
+pub fn gave_of(answer: &Answer) -> Gave {
     match answer {
         Answer::Joined(key) => Gave::Joined(key.0),
         Answer::Plain(PlainReply::Done) => Gave::Done,

@@ -16,7 +16,7 @@ fn main(rt: HostRuntime) -> ExitCode {
     };
     let mut source = StdSource::new(rt.stdin());
     let mut sink = StdSink::new(rt.stdout());
-    let (status, _disk) = top(
+    let (status, disk) = top(
         &rt,
         rt.alloc(),
         &words,
@@ -25,7 +25,17 @@ fn main(rt: HostRuntime) -> ExitCode {
         disk,
         &FreeGate,
     );
+    if status == Status::DiskFault {
+        tell_reason(&rt, volume(&words), &disk);
+    }
     ExitCode::from(status.code())
+}
+
+// Writes on the standard error why the device failed. Where that cannot be written the status is the same.
+fn tell_reason(rt: &HostRuntime, path: &str, disk: &FileDisk) {
+    if let Some(reason) = disk.reason() {
+        let _written = eprintln!(rt; "dede: {path}: {reason}");
+    }
 }
 
 // The words of the command line, and the device over the file that they name.

@@ -1,6 +1,7 @@
 // What no clause says: what stands in a real file, and that the calls succeed.
 use file_disk::{FileDisk, read_padded};
 use shared_disk::{Device, DiskNo};
+use std::alloc::Global;
 use std::io::Read;
 use std::os::unix::fs::FileExt;
 use std::test::Fail;
@@ -114,10 +115,29 @@ fn a_counter_is_clamped_and_padded(rt: HostRuntime) -> Result<(), Fail> {
     Ok(())
 }
 
+// What the device tells of its last failed call.
+fn reason_of(alloc: Global, disk: &FileDisk) -> Result<String, Fail> {
+    match disk.reason() {
+        Some(reason) => Ok(format!(in alloc; "{reason}")?),
+        None => Ok(String::new(alloc)),
+    }
+}
+
 #[test]
-fn without_a_file_no_key_is_registered(rt: HostRuntime) -> Result<(), Fail> {
-    let mut disk = FileDisk::new(&rt, rt.alloc(), "/no-such-folder/volume")?;
-    assert_eq!(rt; disk.register(0), Err(DiskNo::Failed));
-    assert_eq!(rt; disk.counter(), 0);
+fn without_a_file_no_key_is_registered_and_the_reason_is_told(rt: HostRuntime) -> Result<(), Fail> {
+    let folder = env::temp_dir(&rt)?;
+    for (path, reason) in [
+        (
+            "/no-such-folder/volume",
+            "No such file or directory (os error 2)",
+        ),
+        (folder.as_str(), "Is a directory (os error 21)"),
+    ] {
+        let mut disk = FileDisk::new(&rt, rt.alloc(), path)?;
+        assert_eq!(rt; reason_of(rt.alloc(), &disk)?.as_str(), "");
+        assert_eq!(rt; disk.register(0), Err(DiskNo::Failed));
+        assert_eq!(rt; disk.counter(), 0);
+        assert_eq!(rt; reason_of(rt.alloc(), &disk)?.as_str(), reason);
+    }
     Ok(())
 }

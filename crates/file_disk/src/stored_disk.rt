@@ -1,18 +1,19 @@
 // A device over a store.
-ghost use Rattle.std.specs.Prelude.{◌≡◌, ◌≢◌, ◌+◌, ◌-◌, ◌*◌, ◌/◌, ◌^◌, ◌<◌, ◌≤◌, ◌↔◌, ℕ, All, false, IsTrue, length, vec_capacity, vec_len};
+ghost use Rattle.std.specs.Prelude.{◌≡◌, ◌≢◌, ◌+◌, ◌-◌, ◌*◌, ◌/◌, ◌^◌, ◌<◌, ◌≤◌, ◌↔◌, ℕ, All, false, IsSome, IsTrue, length, vec_capacity, vec_len};
 ghost use Rattle.std.specs.Option.{ForSome};
 ghost use Rattle.shared_disk.specs.Calls.{last_counter};
 
 use crate::store::{BLOCKS, Store};
 use shared_disk::{Device, DiskNo, LAST_COUNTER, Tested};
 use std::alloc::Global;
+use std::io;
 use vol_base::{Block, HostNo, Key, NoMemory};
 
 // So many keys are registered without a call for memory.
 pub(crate) const KEYS: usize = 16_400;
 
 /// A device of `BLOCKS` blocks over a store. It tells of its content what the store tells. Each
-/// failed call of the store is a fault.
+/// failed call of the store is a fault, and the reason of the last one is kept.
 #[derive(Drop)]
 pub struct StoredDisk<S: Store> {
     store: S,
@@ -21,6 +22,7 @@ pub struct StoredDisk<S: Store> {
     counter: u64,
     calls: u64,
     faults: u64,
+    reason: Option<io::Error>,
     ghost reached: { All (λ key. key / 16 ≤ counter) keys.items },
     ghost named: { All (λ key. 0 < key) keys.items },
     ghost fits: { counter < 2 ^ 59 },
@@ -28,11 +30,12 @@ pub struct StoredDisk<S: Store> {
     ghost kept: { ForSome (S.kept store) (λ kept. kept ≡ counter) },
     ghost closed_keys: { S.is_open store ≡ false → vec_len keys ≡ 0 },
     ghost closed_counter: { S.is_open store ≡ false → counter ≡ 0 },
+    ghost known: { IsSome reason ↔ (0 < faults) },
 }
 
 impl<S: Store> StoredDisk<S> {
     ghost use Rattle.std.specs.Prelude.{◌⊎◌, [], Contains, IfErr, IfOk, OnErr, OnOk};
-    ghost use Rattle.file_disk.specs.StoredDisk.{CountsFailure, fresh, keyed_of, room_of, state_of, with_call, with_fault, without_key};
+    ghost use Rattle.file_disk.specs.StoredDisk.{NotesFailure, fresh, keyed_of, room_of, state_of, with_call, with_fault, without_key};
     ghost use Rattle.shared_disk.specs.Calls.{after_register, after_write, next_key};
     ghost use Rattle.shared_disk.specs.State.{Stands};
     ghost use Rattle.vol_base.specs.Faults.{Rose};
@@ -63,7 +66,17 @@ impl<S: Store> StoredDisk<S> {
             counter,
             calls: 0,
             faults: 0,
+            reason: None,
         }
+    }
+
+    /// Why the last failed call of the device failed: what the store answered then. Before a call failed
+    /// there is nothing to tell.
+    pub fn reason(&self) -> Option<io::Error>
+        ensures reason { result ≡ (keyed_of self.now).reason }
+        ensures known { IsSome result ↔ (0 < (keyed_of self.now).faults) }
+    {
+        self.reason
     }
 
     fn count_call(&mut self)
@@ -72,14 +85,15 @@ impl<S: Store> StoredDisk<S> {
         self.calls = self.calls.saturating_add(1);
     }
 
-    // Counts a fault.
-    fn fail(&mut self) -> DiskNo
+    // Counts a fault, and keeps why it came.
+    fn fail(&mut self, reason: io::Error) -> DiskNo
         ensures refusal { result ≡ DiskNo.Failed }
-        ensures keyed { keyed_of self.new ≡ with_fault (keyed_of self.old) }
+        ensures keyed { keyed_of self.new ≡ with_fault (Some reason) (keyed_of self.old) }
         ensures rose { Rose (keyed_of self.old).faults (keyed_of self.new).faults }
         ensures later { (keyed_of self.old).faults ≤ (keyed_of self.new).faults }
     {
         self.faults = self.faults.saturating_add(1);
+        self.reason = Some(reason);
         DiskNo::Failed
     }
 
@@ -102,15 +116,15 @@ impl<S: Store> StoredDisk<S> {
         requires { place < BLOCKS }
         ensures block { IfOk result (λ block. Stands (state_of S.told (keyed_of self.old)) place block.0) }
         ensures ok { OnOk result (keyed_of self.new ≡ keyed_of self.old) }
-        ensures err { OnErr result (keyed_of self.new ≡ with_fault (keyed_of self.old)) }
+        ensures err { OnErr result (keyed_of self.new ≡ with_fault (keyed_of self.new).reason (keyed_of self.old)) }
         ensures only { IfErr result (λ refusal. refusal ≡ DiskNo.Failed) }
-        ensures faults { CountsFailure (keyed_of self.old).faults (keyed_of self.new).faults result }
+        ensures faults { NotesFailure (keyed_of self.old) (keyed_of self.new) result }
         ensures failed { OnErr result (Rose (keyed_of self.old).faults (keyed_of self.new).faults) }
         ensures later { (keyed_of self.old).faults ≤ (keyed_of self.new).faults }
     {
         match self.store.block(place) {
             Ok(block) => Ok(block),
-            Err(_) => Err(self.fail()),
+            Err(reason) => Err(self.fail(reason)),
         }
     }
 
@@ -119,14 +133,14 @@ impl<S: Store> StoredDisk<S> {
         ensures ok { OnOk result (state_of S.told (keyed_of self.new) ≡ after_write place block.now.0 (state_of S.told (keyed_of self.old))) }
         ensures err { OnErr result (state_of S.told (keyed_of self.new) ≡ state_of S.told (keyed_of self.old)) }
         ensures only { IfErr result (λ refusal. refusal ≡ DiskNo.Failed) }
-        ensures faults { CountsFailure (keyed_of self.old).faults (keyed_of self.new).faults result }
+        ensures faults { NotesFailure (keyed_of self.old) (keyed_of self.new) result }
         ensures failed { OnErr result (Rose (keyed_of self.old).faults (keyed_of self.new).faults) }
         ensures later { (keyed_of self.old).faults ≤ (keyed_of self.new).faults }
         ensures count { (keyed_of self.new).answered ≡ (keyed_of self.old).answered }
     {
         match self.store.set_block(place, block) {
             Ok(()) => Ok(()),
-            Err(_) => Err(self.fail()),
+            Err(reason) => Err(self.fail(reason)),
         }
     }
 
@@ -140,15 +154,15 @@ impl<S: Store> StoredDisk<S> {
         ensures only { IfErr result (λ refusal. (refusal ≡ DiskNo.Failed) ⊎ (refusal ≡ DiskNo.NoMemory)) }
         ensures memory { result ≡ Err DiskNo.NoMemory → room_of (keyed_of self.old) ≡ 0 }
         ensures closed { S.is_open (keyed_of self.old).store ≡ false → result ≡ Err DiskNo.Failed }
-        ensures faults { CountsFailure (keyed_of self.old).faults (keyed_of self.new).faults result }
+        ensures faults { NotesFailure (keyed_of self.old) (keyed_of self.new) result }
         ensures failed { result ≡ Err DiskNo.Failed → Rose (keyed_of self.old).faults (keyed_of self.new).faults }
         ensures later { (keyed_of self.old).faults ≤ (keyed_of self.new).faults }
         ensures count { (keyed_of self.new).answered ≡ (keyed_of self.old).answered }
     {
         self.keys.reserve(1)?;
         let counter = self.counter + 1;
-        if self.store.set_counter(counter).is_err() {
-            return Err(self.fail());
+        if let Err(reason) = self.store.set_counter(counter) {
+            return Err(self.fail(reason));
         }
         self.counter = counter;
         let key = counter * 16 + u64::from(host);
@@ -166,7 +180,7 @@ impl<S: Store> StoredDisk<S> {
 
 impl<S: Store> Device for StoredDisk<S> {
     ghost use Rattle.std.specs.Prelude.{Contains, IfOk, OnErr, OnOk};
-    ghost use Rattle.file_disk.specs.StoredDisk.{CountsFailure, keyed_of, room_of, state_of};
+    ghost use Rattle.file_disk.specs.StoredDisk.{NotesFailure, keyed_of, room_of, state_of};
     ghost use Rattle.shared_disk.specs.Calls.{after_fence, after_register, after_write, next_count, next_key, Swaps};
     ghost use Rattle.shared_disk.specs.State.{Stands};
     ghost use Rattle.vol_base.specs.Faults.{Rose};
@@ -204,7 +218,7 @@ impl<S: Store> Device for StoredDisk<S> {
 
         ensures count { (keyed_of self.new).answered ≡ next_count (keyed_of self.old).answered }
         ensures later { (keyed_of self.old).faults ≤ (keyed_of self.new).faults }
-        ensures faults { CountsFailure (keyed_of self.old).faults (keyed_of self.new).faults result }
+        ensures faults { NotesFailure (keyed_of self.old) (keyed_of self.new) result }
         ensures spends { room_of (keyed_of self.old) ≤ room_of (keyed_of self.new) }
     {
         self.admit(key)?;
@@ -224,7 +238,7 @@ impl<S: Store> Device for StoredDisk<S> {
 
         ensures count { (keyed_of self.new).answered ≡ next_count (keyed_of self.old).answered }
         ensures later { (keyed_of self.old).faults ≤ (keyed_of self.new).faults }
-        ensures faults { CountsFailure (keyed_of self.old).faults (keyed_of self.new).faults result }
+        ensures faults { NotesFailure (keyed_of self.old) (keyed_of self.new) result }
         ensures spends { room_of (keyed_of self.old) ≤ room_of (keyed_of self.new) }
     {
         self.admit(key)?;
@@ -250,7 +264,7 @@ impl<S: Store> Device for StoredDisk<S> {
 
         ensures count { (keyed_of self.new).answered ≡ next_count (keyed_of self.old).answered }
         ensures later { (keyed_of self.old).faults ≤ (keyed_of self.new).faults }
-        ensures faults { CountsFailure (keyed_of self.old).faults (keyed_of self.new).faults result }
+        ensures faults { NotesFailure (keyed_of self.old) (keyed_of self.new) result }
         ensures spends { room_of (keyed_of self.old) ≤ room_of (keyed_of self.new) }
     {
         self.admit(key)?;
@@ -276,7 +290,7 @@ impl<S: Store> Device for StoredDisk<S> {
 
         ensures count { (keyed_of self.new).answered ≡ next_count (keyed_of self.old).answered }
         ensures later { (keyed_of self.old).faults ≤ (keyed_of self.new).faults }
-        ensures faults { CountsFailure (keyed_of self.old).faults (keyed_of self.new).faults result }
+        ensures faults { NotesFailure (keyed_of self.old) (keyed_of self.new) result }
         ensures spends { room_of (keyed_of self.old) ≤ room_of (keyed_of self.new) + 1 }
     {
         self.count_call();
@@ -298,7 +312,7 @@ impl<S: Store> Device for StoredDisk<S> {
 
         ensures count { (keyed_of self.new).answered ≡ next_count (keyed_of self.old).answered }
         ensures later { (keyed_of self.old).faults ≤ (keyed_of self.new).faults }
-        ensures faults { CountsFailure (keyed_of self.old).faults (keyed_of self.new).faults result }
+        ensures faults { NotesFailure (keyed_of self.old) (keyed_of self.new) result }
         ensures spends { room_of (keyed_of self.old) ≤ room_of (keyed_of self.new) }
     {
         self.admit(key)?;

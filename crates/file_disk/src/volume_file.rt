@@ -15,10 +15,11 @@ use vol_base::Block;
 // The bytes of a block, and of the file's head, which has the counter.
 const BLOCK_BYTES: u64 = 4096;
 
-/// The file that holds a volume. Where it could not be opened, each call fails.
+/// The file that holds a volume. Where it could not be opened, each call fails for the reason for
+/// which the opening failed.
 #[derive(Drop)]
 pub struct VolumeFile {
-    file: Option<File>,
+    file: io::Result<File>,
 }
 
 impl VolumeFile {
@@ -32,8 +33,8 @@ impl VolumeFile {
         ensures closed { is_opened result.0 ≡ false → result.1 ≡ 0 }
     {
         match open_with_counter(rt, path) {
-            Ok((file, counter)) => (VolumeFile { file: Some(file) }, counter),
-            Err(_) => (VolumeFile { file: None }, 0),
+            Ok((file, counter)) => (VolumeFile { file: Ok(file) }, counter),
+            Err(reason) => (VolumeFile { file: Err(reason) }, 0),
         }
     }
 
@@ -41,8 +42,8 @@ impl VolumeFile {
         ensures { OnOk result (is_opened self.now ≡ true) }
     {
         match &self.file {
-            Some(file) => Ok(file),
-            None => Err(ErrorKind::NotFound.into()),
+            Ok(file) => Ok(file),
+            Err(reason) => Err(*reason),
         }
     }
 }

@@ -1,5 +1,3 @@
-pub mod AnswerLaws
-pub mod EntryLaws
 pub mod FitLaws
 pub mod FrontLaws
 pub mod PhaseLaws

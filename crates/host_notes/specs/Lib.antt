@@ -4,5 +4,6 @@ pub mod CutTurns
 pub mod FileTurns
 pub mod Owes
 pub mod Remembered
+pub mod VolumeTurns
 pub mod laws
 pub mod lemmas

@@ -13,3 +13,5 @@ pub mod SlotMemories
 pub mod SlotRights
 pub mod TryLaws
 pub mod TurnLaws
+pub mod VolumeEndings
+pub mod VolumeOwes

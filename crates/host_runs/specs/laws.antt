@@ -1,7 +1,10 @@
 pub mod AnswerOrderLaws
+pub mod AnsweredLaws
+pub mod CounterLaws
 pub mod DeathLookLaws
 pub mod DeathRunLaws
 pub mod DeathStartLaws
+pub mod DeviceLaws
 pub mod DownLaws
 pub mod DyingLaws
 pub mod EnterLaws

@@ -9,7 +9,10 @@
 //! of its events, each plain reply behind its entry (`listed-run`); a host has a key where its answers
 //! say that it is joined (`seated-run`), and dies no later than it is to (`dying-run`); a host that is not
 //! joined calls in a `join` alone (`out-calls`), and is the only one that is answered `down`
-//! (`down-run`); a key is taken off only by a command that may (`keys-run`). A run of a tidy workload
+//! (`down-run`); a key is taken off only by a command that may (`keys-run`); the device's counter rises
+//! at most once a line (`counter-run`), its faults never fall (`faults-run`), and it keeps its blocks
+//! (`blocks-run`); each line has an answer where no host has a line left in the last phase
+//! (`all-answered`). A run of a tidy workload
 //! without a fault of the device, from a valid volume whose slots are free, has no `busy` and no cut, and
 //! serves each file command of a joined host (`tidy-complete`). Three wrong turns are refused: two device
 //! calls, an `alive 3`, an answered write without its place (`RefusedLaws`). Two runs are computed by

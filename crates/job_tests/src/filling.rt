@@ -1,29 +1,35 @@
 // A workload that writes each data block of a volume, and then one more.
-use crate::running::{SIM, blank, expect};
-use jobs::Status;
+use crate::cases::{expect_valid, simulate};
+use shared_disk::MemDisk;
+use std::alloc::{AllocError, Global};
 use std::test::Fail;
 
-// The volume has one group, of 1,008 data blocks, and 15 blocks before it. File 0 takes each of them, so
-// that file 1 gets none.
+// The volume has one group, of 1,008 data blocks. File 0 takes each of them, so that file 1 gets none until one is given back. Every line
+// but that one is in the history.
+fn script(alloc: Global) -> Result<String, AllocError> {
+    let mut script = String::from_str(
+        alloc,
+        "volume 1 2 1 1 1 1\n0 join -> joined 32\n0 create 0 -> ok\n0 size 0 1008 -> ok\n",
+    )?;
+    for index in 0..1008u32 {
+        write!(script, "0 write 0 {index} 1 -> ok\n")?;
+    }
+    script.push_str("0 create 1 -> ok\n0 size 1 1 -> ok\n0 write 1 0 2 -> full\n")?;
+    script.push_str("0 punch 0 0 -> ok\n0 write 1 0 2 -> ok\n\nhistory")?;
+    for line in 3..1015u32 {
+        write!(script, " {line}")?;
+    }
+    script.push_str(" 1016 1017\nused 1008 mapped 1008\n")?;
+    Ok(script)
+}
+
 #[test]
 fn a_full_volume(rt: HostRuntime) -> Result<(), Fail> {
     let alloc = rt.alloc();
-    let first = "volume 1 2 1 1 1 1\n0 join\n0 create 0\n0 size 0 1008\n";
-    let mut text = String::from_str(alloc, first)?;
-    let mut report = String::from_str(alloc, "2 joined 32\n3 ok\n4 ok\n")?;
-    let mut history = String::from_str(alloc, "history 3 4")?;
-    for index in 0..1008u32 {
-        let line = index + 5;
-        write!(text, "0 write 0 {index} 7\n")?;
-        write!(report, "{line} ok\n")?;
-        write!(history, " {line}")?;
-    }
-    text.push_str("0 create 1\n0 size 1 1\n0 write 1 0 8\n0 read 1 0\n")?;
-    report.push_str("1013 ok\n1014 ok\n1015 full\n1016 = 0\n")?;
-    report.push_str(history.as_str())?;
-    report.push_str(" 1013 1014 1016\nused 1008 mapped 1008\n")?;
-    let disk = blank(alloc, 1023, 0, 0)?;
-    let (text, report) = (text.as_str(), report.as_str());
-    expect(&rt, alloc, SIM, text, disk, Status::Ok, report)?;
+    let shows = "a full volume";
+    let script = script(alloc)?;
+    let disk = MemDisk::new(alloc, 1023)?;
+    let disk = simulate(&rt, alloc, script.as_str(), disk, shows)?;
+    expect_valid(&rt, alloc, "used 1008 mapped 1008\n", disk, shows)?;
     Ok(())
 }

@@ -1,12 +1,36 @@
 //! Tests of the jobs: whole texts and volumes, and what a job writes of them byte by byte. They stand in one
 //! crate, so that the jobs and the crates below are proved once.
+//!
+//! - `one_host`, `several_hosts`, `earlier_runs`, `damages`, `faults`: tables of cases. Each case is a device in memory and what is done with it,
+//!   one step after the other: a workload with each answer behind its line, a check, or a change of the device's blocks, counter or calls.
+//! - `deaths`: a command that is cut behind each of its device calls in turn, by the death of its host, and the recovery of that host.
+//! - `filling`: a volume that is written full. `refusals`: words and texts without a run. `streams`: sources and sinks that fail.
+//! - `telling`: the texts of outcomes.
 #![tactic(auto)]
 
 #[cfg(test)]
-mod checking;
+mod cases;
+#[cfg(test)]
+mod damages;
+#[cfg(test)]
+mod deaths;
+#[cfg(test)]
+mod devices;
+#[cfg(test)]
+mod earlier_runs;
+#[cfg(test)]
+mod faults;
 #[cfg(test)]
 mod filling;
 #[cfg(test)]
-mod running;
+mod one_host;
 #[cfg(test)]
-mod volumes;
+mod refusals;
+#[cfg(test)]
+mod scripts;
+#[cfg(test)]
+mod several_hosts;
+#[cfg(test)]
+mod streams;
+#[cfg(test)]
+mod telling;

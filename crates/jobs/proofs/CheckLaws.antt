@@ -19,7 +19,7 @@ use Rattle.jobs.specs.declared.status.Status.TheVariants as statuses
 use Rattle.jobs.specs.Checks.{AreVisits, CheckDecides, CheckRefuses, IsCheckStatus, IsReady, PrintsRefusal, PrintsValid}
 use Rattle.shared_disk.specs.Seen.{DiskSeen}
 use Rattle.jobs.specs.Commands.{CheckEnds}
-use Rattle.jobs.specs.Endings.{Ends, HasRefused, IsSmooth, SinkSeen, IsTold}
+use Rattle.jobs.specs.Endings.{Ends, HasFailed, IsSmooth, SinkSeen, IsTold}
 use Rattle.jobs.specs.Outcomes.{outcome_text, status_of}
 use Rattle.jobs.proofs.TellingLaws.{cut_of, told_quietly, written_of}
 
@@ -51,7 +51,6 @@ ready_not_refused s new (refusals.NoKeys counter) ready h =
     let keys = ready.keys in
     elim h.met [ inl at ↦ absurd (omega (arith, at, keys)) | inr next ↦ let at = next.0 in absurd (omega (arith, at, keys)) ]
 ready_not_refused s new (refusals.Busy key) ready h = h
-ready_not_refused s new (refusals.Held place) ready h = h
 ready_not_refused s new (refusals.Misread place) ready h = untold s.told _ ready.valid h.untold
 
 -- on such a device a check without a fault finds the volume valid, or has no memory
@@ -168,7 +167,7 @@ check_status : (old new : DiskSeen) (before after : SinkSeen) (status : Status)
 check_status old new before after status ends = told_status old new before after ends.outcome status ends.decided ends.told
 
 check_cut_short : (old new : DiskSeen) (before after : SinkSeen) (status : Status)
-    → Ends (CheckDecides old new) before after status → status ≡ statuses.WriteFault → HasRefused before after
+    → Ends (CheckDecides old new) before after status → status ≡ statuses.WriteFault → HasFailed before after
 check_cut_short old new before after status ends is = (cut_of before after ends.outcome status ends.told is).cause
 
 -- so an outcome that was decided and told has all that the job ends with, where the device holds what it held

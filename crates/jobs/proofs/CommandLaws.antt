@@ -1,17 +1,23 @@
 -- How the program ends, by its words.
-use Rattle.std.proofs.Common.{◌≡◌, Option, inl, inr, sym, subst}
+use Rattle.std.proofs.Common.{◌≡◌, ℕ, List, Option, inl, inr, sym, subst}
 use Rattle.jobs.specs.declared.outcome.Outcome.TheVariants as outcomes
 use Rattle.jobs.specs.declared.status.Status.{Status}
 use Rattle.jobs.specs.declared.words.Job.{Job}
-use Rattle.jobs.specs.Commands.{CommandEnds, IsUsageStatus, UsageEnds}
+use Rattle.jobs.specs.Commands.{IsUsageStatus, JobEnds, ProgramEnds, UsageEnds}
 use Rattle.jobs.specs.Endings.{SinkSeen, IsTold}
 use Rattle.jobs.specs.Seen.{Seen}
 use Rattle.jobs.proofs.TellingLaws.{cut_of, written_of}
 
 -- the words ask for this job
-pub command_ends : (asked job : Option Job) (before after : Seen) (status : Status) → asked ≡ job → CommandEnds job before after status → CommandEnds asked before after status
-command_ends asked job before after status is ends =
-    let P : Option Job → Type 0 = λ which. CommandEnds which before after status in subst P (sym is) ends
+pub command_ends : (asked job : Option Job) (hosts : List ℕ) (before after : Seen) (status : Status) → asked ≡ job
+    → JobEnds job hosts before after status → JobEnds asked hosts before after status
+command_ends asked job hosts before after status is ends =
+    let P : Option Job → Type 0 = λ which. JobEnds which hosts before after status in subst P (sym is) ends
+
+pub program_ends : (asked job : Option Job) (hosts : List ℕ) (before after : Seen) (status : Status) → asked ≡ job
+    → ProgramEnds job hosts before after status → ProgramEnds asked hosts before after status
+program_ends asked job hosts before after status is ends =
+    let P : Option Job → Type 0 = λ which. ProgramEnds which hosts before after status in subst P (sym is) ends
 
 usage_among : (before after : SinkSeen) (status : Status) → IsTold before after outcomes.Usage status → IsUsageStatus status
 usage_among before after status (inl written) = subst IsUsageStatus (sym written.ends) tt
@@ -19,8 +25,8 @@ usage_among before after status (inr (inl short)) = subst IsUsageStatus (sym sho
 usage_among before after status (inr (inr unwritten)) = subst IsUsageStatus (sym unwritten.ends) tt
 
 -- words that are of no form
-pub usage_ends : (before after : Seen) (status : Status) → after.source ≡ before.source → after.disk ≡ before.disk → IsTold before.sink after.sink outcomes.Usage status
-    → UsageEnds before after status
+pub usage_ends : (before after : Seen) (status : Status) → after.source ≡ before.source → after.disk ≡ before.disk
+    → IsTold before.sink after.sink outcomes.Usage status → UsageEnds before after status
 usage_ends before after status source disk told = record {
   told = told;
   among = usage_among before.sink after.sink status told;

@@ -1,8 +1,12 @@
 mod CheckLaws
+mod ClusterLaws
 mod CommandLaws
+mod Conclusions
+mod FilesSince
 mod ReadingLaws
-mod RunCounters
+mod RunEnds
 mod RunLaws
-mod RunSteps
 mod SimLaws
 mod TellingLaws
+mod ThreadLaws
+mod WordLaws

@@ -1,62 +1,56 @@
 -- What is built of a text.
-use Rattle.std.proofs.Common.{◌≡◌, ◌==◌, ◌&&◌, ◌^◌, ◌+◌, ◌<◌, ℕ, zero, suc, All, Bool, true, false, List, [], ◌∷◌, Option, Some, None, Err, IsTrue, inl, inr, refl, sym, length, get_or, arith}
-use Rattle.std.specs.Prelude.{find, if◌then◌else◌, nat_le, not}
+use Rattle.std.proofs.Common.{◌≡◌, ◌==◌, ◌+◌, ◌<◌, ℕ, zero, suc, All, true, false, List, [], ◌∷◌, Option, Some, None, Err, IsTrue, inl, inr, refl, sym, length, get_or, arith}
+use Rattle.std.specs.Prelude.{find, nat_le, not}
 use Rattle.std.specs.Option.{option_map}
-use Rattle.std.proofs.lemmas.Bool.{cases_Bool, eqb-true, false≢true, ltb-true}
+use Rattle.std.proofs.lemmas.Bool.{cases_Bool, eq-eqb, false≢true}
 use Rattle.std.proofs.lemmas.Bool.Decides.{nat_tests}
 use Rattle.vol_base.specs.declared.command.Command.{Command}
 use Rattle.vol_base.specs.declared.command.Command.TheVariants as commands
 use Rattle.vol_layout.specs.declared.geometry.Geometry.{Geometry}
-use Rattle.workload.specs.declared.line.Line.{Line}
-use Rattle.workload.specs.declared.line.Workload.{Workload}
 use Rattle.vol_io.specs.declared.reading.ReadNo.{ReadNo}
 use Rattle.vol_io.specs.declared.reading.ReadNo.TheVariants as reads
 use Rattle.vol_io.specs.Reads.{ReadsFront, ReadsToEnd}
 use Rattle.workload.specs.declared.cause.WorkloadNo.TheVariants as causes
-use Rattle.workload.specs.Entries.{most_commands}
+use Rattle.workload.specs.declared.line.Line.{Line}
+use Rattle.workload.specs.declared.line.Workload.{Workload}
 use Rattle.workload.specs.Grammar.{most_bytes, workload_of}
-use Rattle.workload.specs.Ranges.{is_in_range}
+use Rattle.workload.specs.Ranges.{is_own}
 use Rattle.workload.specs.Workloads.{IsAllowed, IsWorkload}
-use Rattle.first_run.specs.Runs.{IsBuilt, IsBuiltLine}
+use Rattle.cluster.specs.Agreements.{IsKnownLine}
+use Rattle.cluster.specs.Seats.{IsKnown}
 use Rattle.jobs.specs.declared.outcome.Outcome.TheVariants as outcomes
-use Rattle.jobs.specs.Built.{built_workload_of, first_unbuilt, first_unbuilt_line, is_built, is_built_command}
+use Rattle.jobs.specs.Built.{built_workload_of, first_unbuilt, is_built}
 use Rattle.jobs.specs.Sources.{SourceSeen, StopsReading, TakesAtMost}
 
-both : (a b : Bool) → (a && b) ≡ true → (a ≡ true) × (b ≡ true)
-both true true e = (refl, refl)
-both true false e = cc
-both false b e = cc
-
 -- where no line is found that is not built, each one is
-built_at : (lines : List Line) → find (λ line. not (is_built line)) lines ≡ None → (k : ℕ) (d : Line) → k < length lines → is_built (get_or lines k d) ≡ true
+built_at : (lines : List Line) → find (λ line. not (is_built line.command)) lines ≡ None → (k : ℕ) (d : Line) → k < length lines
+    → is_built (get_or lines k d).command ≡ true
 built_at [] none k d below = absurd (omega (arith, below))
 built_at (line ∷ lines) none zero d below =
-    elim (cases_Bool (is_built line)) [
+    elim (cases_Bool (is_built line.command)) [
       | inl built ↦ built
       | inr other ↦ let e : Some line ≡ None = rw other at none in cc
     ]
 built_at (line ∷ lines) none (suc k) d below =
-    elim (cases_Bool (is_built line)) [
+    elim (cases_Bool (is_built line.command)) [
       | inl built ↦ built_at lines (rw built at none) k d (omega (arith, below))
       | inr other ↦ let e : Some line ≡ None = rw other at none in cc
     ]
 
--- such a command is built, where its file is one of the volume's
-built_command : (g : Geometry) (c : Command) → IsTrue (is_in_range g c) → is_built_command c ≡ true → IsBuilt g c
-built_command g commands.Join range is = tt
-built_command g (commands.Create file) range is = ltb-true file g.files range
-built_command g (commands.Size file blocks) range is = ltb-true file g.files (both _ _ range).0
-built_command g (commands.Write file index n) range is = ltb-true file g.files (both _ _ range).0
-built_command g (commands.Read file index) range is = ltb-true file g.files (both _ _ range).0
-built_command g _ range is = absurd (false≢true is)
+is_foreign : (host of : ℕ) → IsTrue (not (host == of)) → host ≡ of → ⊥
+is_foreign host of foreign own = let same = eq-eqb host of own in false≢true (rw same at foreign)
 
-built_line : (g : Geometry) (line : Line) → IsAllowed g line → is_built line ≡ true → IsBuiltLine g line
-built_line g line allowed is =
-    let parts = both (line.host == 0) (is_built_command line.command) is in
-    record { host = eqb-true line.host 0 parts.0; command = built_command g line.command allowed.range parts.1 }
-
-some_is_not_none : (n : ℕ) → Some n ≡ None → ⊥
-some_is_not_none n e = cc
+-- a cluster knows each command that is built
+known_command : (host : ℕ) (c : Command) → IsTrue (not (is_own host c)) → is_built c ≡ true → IsKnown host c
+known_command host commands.Log foreign is = absurd (false≢true is)
+known_command host (commands.Scan file index) foreign is = absurd (false≢true is)
+known_command host commands.Merge foreign is = absurd (false≢true is)
+known_command host commands.Serve foreign is = absurd (false≢true is)
+known_command host (commands.Collect part) foreign is = absurd (false≢true is)
+known_command host (commands.Scribble place n digest) foreign is = absurd (false≢true is)
+known_command host (commands.Look of) foreign is = λ own. is_foreign host of foreign (sym own)
+known_command host (commands.Recover of) foreign is = λ own. is_foreign host of foreign (sym own)
+known_command host _ foreign is = tt
 
 -- nothing was found where nothing was made of it
 found_none : (o : Option Line) → option_map (λ line. line.at) o ≡ None → o ≡ None
@@ -64,25 +58,13 @@ found_none None none = refl
 found_none (Some line) none = cc
 
 -- each line of a workload that has no line that is not built
-pub all_built : (g : Geometry) (lines : List Line) → All (IsAllowed g) lines → first_unbuilt_line lines ≡ None → All (IsBuiltLine g) lines
-unfolding first_unbuilt_line
-all_built g lines allowed none =
-    let found : find (λ line. not (is_built line)) lines ≡ None = found_none (find (λ line. not (is_built line)) lines) none in
-    λ k d below. built_line g (get_or lines k d) (allowed k d below) (built_at lines found k d below)
-
--- where nothing of a workload is not built, each line is
-pub workload_built : (w : Workload) → IsWorkload w → None ≡ first_unbuilt w → All (IsBuiltLine w.geometry) w.lines
-workload_built w is none =
-    all_built w.geometry w.lines is.lines
-    ((elim (w.geometry.tables == 1) as (λ (b : Bool). None ≡ (if b then first_unbuilt_line w.lines else Some 1) → first_unbuilt_line w.lines ≡ None) [
-      | true ↦ λ e. sym e
-      | false ↦ λ e. absurd (some_is_not_none 1 (sym e))
-    ]) none)
-
--- a workload has fewer lines than there are positions
-pub few_lines : (w : Workload) → IsWorkload w → length w.lines < 2 ^ 32
-unfolding most_commands
-few_lines w is = let few = is.few in omega (arith, few)
+pub all_known : (g : Geometry) (lines : List Line) → All (IsAllowed g) lines → None ≡ first_unbuilt lines → All IsKnownLine lines
+unfolding first_unbuilt
+all_known g lines allowed none =
+    let found : find (λ line. not (is_built line.command)) lines ≡ None = found_none (find (λ line. not (is_built line.command)) lines) (sym none) in
+    λ k d below.
+    let line = get_or lines k d in
+    known_command line.host line.command (allowed k d below).foreign (built_at lines found k d below)
 
 -- a text that is too long is refused
 pub too_long : (text : List ℕ) → most_bytes < length text → built_workload_of text ≡ Err (0, causes.Long)

@@ -5,12 +5,12 @@ use Rattle.jobs.specs.declared.outcome.Outcome.{Outcome}
 use Rattle.jobs.specs.declared.outcome.Outcome.TheVariants as outcomes
 use Rattle.jobs.specs.declared.status.Status.{Status}
 use Rattle.jobs.specs.declared.status.Status.TheVariants as statuses
-use Rattle.jobs.specs.Endings.{HasRefused, IsCutShort, IsWritten, SinkSeen, IsTold}
+use Rattle.jobs.specs.Endings.{HasFailed, IsCutShort, IsWritten, SinkSeen, IsTold}
 use Rattle.jobs.specs.Outcomes.{status_of}
 
 -- a sink that does not refuse lets an outcome come to its status, where memory serves
 pub told_quietly : (before after : SinkSeen) (outcome : Outcome) (status : Status)
-    → (HasRefused before after → ⊥) → IsTold before after outcome status → (status ≡ status_of outcome) ⊎ (status ≡ statuses.Memory)
+    → (HasFailed before after → ⊥) → IsTold before after outcome status → (status ≡ status_of outcome) ⊎ (status ≡ statuses.Memory)
 told_quietly before after outcome status quiet (inl written) = inl written.ends
 told_quietly before after outcome status quiet (inr (inl short)) = absurd (quiet short.cause)
 told_quietly before after outcome status quiet (inr (inr unwritten)) = inr unwritten.ends

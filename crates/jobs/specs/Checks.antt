@@ -78,7 +78,6 @@ CheckRefuses old new (refusals.Faults faults) = FindsFaults old new faults.items
 CheckRefuses old new refusals.Blank = FindsBlank old new
 CheckRefuses old new (refusals.NoKeys counter) = FindsNoKeys old counter
 CheckRefuses old new (refusals.Busy key) = ⊥
-CheckRefuses old new (refusals.Held place) = ⊥
 CheckRefuses old new (refusals.Misread place) = FindsMisread old new place
 
 -- what a check decides; of a want of memory nothing is said
@@ -116,7 +115,6 @@ SurveyRefuses old new (refusals.Faults faults) = ⊥
 SurveyRefuses old new refusals.Blank = ⊥
 SurveyRefuses old new (refusals.NoKeys counter) = IsAtLast old counter
 SurveyRefuses old new (refusals.Busy key) = ⊥
-SurveyRefuses old new (refusals.Held place) = ⊥
 SurveyRefuses old new (refusals.Misread place) = FindsBad None old new place
 
 -- what the survey of a valid volume decides

@@ -1,5 +1,5 @@
 -- How the program ends, by its words.
-use Rattle.std.specs.Prelude.{◌≡◌, ◌⊎◌, Option, Some, None}
+use Rattle.std.specs.Prelude.{◌≡◌, ◌⊎◌, ℕ, List, Option, Some, None}
 use Rattle.std.specs.Io.KnownBytes.{Appends}
 use Rattle.shared_disk.specs.Seen.{DiskSeen}
 use Rattle.vol_base.specs.Faults.{Rose}
@@ -7,12 +7,14 @@ use Rattle.jobs.specs.declared.outcome.Outcome.TheVariants as outcomes
 use Rattle.jobs.specs.declared.status.Status.{Status}
 use Rattle.jobs.specs.declared.status.Status.TheVariants as statuses
 use Rattle.jobs.specs.declared.words.Job.{Job}
-use Rattle.jobs.specs.declared.words.Job.TheVariants.{Sim, Check}
+use Rattle.jobs.specs.declared.words.Job.TheVariants.{Sim, Run, Check}
 use Rattle.jobs.specs.Checks.{AreVisits, CheckDecides, IsCheckStatus, IsReady, PrintsRefusal, PrintsValid}
-use Rattle.jobs.specs.Endings.{Ends, HasRefused, IsSmooth, IsTold, SinkSeen}
+use Rattle.jobs.specs.Endings.{Ends, HasFailed, IsSmooth, IsTold, SinkSeen}
 use Rattle.jobs.specs.Outcomes.{outcome_text}
+use Rattle.jobs.specs.Runs.{ByThreads, ByWords}
 use Rattle.jobs.specs.Seen.{Seen}
 use Rattle.jobs.specs.Simulations.{SimEnds}
+use Rattle.jobs.specs.Words.{hosts_of, job_of}
 
 -- the job that checks a volume ends with this status
 pub record CheckEnds (old new : DiskSeen) (before after : SinkSeen) (status : Status) : Type 0 where
@@ -23,7 +25,7 @@ pub record CheckEnds (old new : DiskSeen) (before after : SinkSeen) (status : St
   pub ok : status ≡ statuses.Ok → PrintsValid old.state new.state before.taken after.taken
   pub volume : status ≡ statuses.Volume → PrintsRefusal old.state new.state before.taken after.taken
   pub disk_fault : status ≡ statuses.DiskFault → Rose old.faults new.faults
-  pub write_fault : status ≡ statuses.WriteFault → HasRefused before after
+  pub write_fault : status ≡ statuses.WriteFault → HasFailed before after
   -- whatever the status, the device holds what it held
   pub told : new.state.told ≡ old.state.told
   pub blocks : new.state.blocks ≡ old.state.blocks
@@ -54,12 +56,25 @@ pub record UsageEnds (before after : Seen) (status : Status) : Type 0 where
   pub told : IsTold before.sink after.sink outcomes.Usage status
   pub among : IsUsageStatus status
   pub usage : status ≡ statuses.Usage → Appends before.sink.taken after.sink.taken (outcome_text outcomes.Usage)
-  pub write_fault : status ≡ statuses.WriteFault → HasRefused before.sink after.sink
+  pub write_fault : status ≡ statuses.WriteFault → HasFailed before.sink after.sink
   pub source : after.source ≡ before.source
   pub disk : after.disk ≡ before.disk
 
--- the program ends with this status, by the job that its words ask for
-abbrev pub CommandEnds : Option Job → Seen → Seen → Status → Type 0
-CommandEnds None = UsageEnds
-CommandEnds (Some Sim) = SimEnds
-CommandEnds (Some Check) = ChecksAlone
+-- a job that needs no threads ends with this status, by the words that ask for it; the one that needs them is not done, as words of no form
+abbrev pub JobEnds : Option Job → List ℕ → Seen → Seen → Status → Type 0
+JobEnds None hosts = UsageEnds
+JobEnds (Some Sim) hosts = SimEnds (ByWords hosts)
+JobEnds (Some Run) hosts = UsageEnds
+JobEnds (Some Check) hosts = ChecksAlone
+
+-- by the words behind its name
+abbrev pub CommandEnds : List (List ℕ) → Seen → Seen → Status → Type 0
+CommandEnds words = JobEnds (job_of words) (hosts_of words)
+
+-- the program does that job too
+abbrev pub ProgramEnds : Option Job → List ℕ → Seen → Seen → Status → Type 0
+ProgramEnds (Some Run) hosts = SimEnds ByThreads
+ProgramEnds job hosts = JobEnds job hosts
+
+abbrev pub TopEnds : List (List ℕ) → Seen → Seen → Status → Type 0
+TopEnds words = ProgramEnds (job_of words) (hosts_of words)

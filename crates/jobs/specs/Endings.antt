@@ -17,8 +17,8 @@ pub record SinkSeen : Type 0 where
   pub refusals : ℕ
 
 -- the sink failed, or took nothing of a piece that is not empty
-abbrev pub HasRefused : SinkSeen → SinkSeen → Type 0
-HasRefused before after = Rose before.faults after.faults ⊎ Rose before.refusals after.refusals
+abbrev pub HasFailed : SinkSeen → SinkSeen → Type 0
+HasFailed before after = Rose before.faults after.faults ⊎ Rose before.refusals after.refusals
 
 -- the whole text was written
 pub record IsWritten (before after : SinkSeen) (outcome : Outcome) (status : Status) : Type 0 where
@@ -29,7 +29,7 @@ pub record IsWritten (before after : SinkSeen) (outcome : Outcome) (status : Sta
 pub record IsCutShort (before after : SinkSeen) (outcome : Outcome) (status : Status) : Type 0 where
   pub ends : status ≡ statuses.WriteFault
   pub text : AppendsFront before.taken after.taken (outcome_text outcome)
-  pub cause : HasRefused before after
+  pub cause : HasFailed before after
 
 -- there was no memory for the text, and the sink is as before
 pub record IsUnwritten (before after : SinkSeen) (status : Status) : Type 0 where
@@ -50,4 +50,4 @@ pub record Ends (Decided : Outcome → Type 0) (before after : SinkSeen) (status
 -- no call of the device and of the sink failed, and the sink took something of each piece that is not empty
 pub record IsSmooth (old new : DiskSeen) (before after : SinkSeen) : Type 0 where
   pub disk : Rose old.faults new.faults → ⊥
-  pub sink : HasRefused before after → ⊥
+  pub sink : HasFailed before after → ⊥

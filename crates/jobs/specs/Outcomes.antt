@@ -68,7 +68,6 @@ refusal_text (refusals.Faults faults) = faults_text faults.items
 refusal_text refusals.Blank = codes "volume block 0: blank" ++ 10 ∷ []
 refusal_text (refusals.NoKeys counter) = keys_line counter
 refusal_text (refusals.Busy key) = busy_line key.0
-refusal_text (refusals.Held place) = spelling_line place
 refusal_text (refusals.Misread place) = spelling_line place
 
 -- why a survey was refused

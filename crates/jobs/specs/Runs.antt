@@ -1,106 +1,103 @@
 -- What the job that runs a workload decides, once the workload is read.
-use Rattle.std.specs.Prelude.{◌≡◌, ◌≢◌, ◌⊎◌, ◌↔◌, ◌+◌, ◌<◌, ◌≤◌, ◌^◌, ℕ, All, IfSome, IsSome, IsSomeAnd, List, Option, Some, None, length}
-use Rattle.image_view.specs.declared.usage.Usage.{Usage}
-use Rattle.image_view.specs.Images.{Image, IsBlank}
-use Rattle.image_view.specs.Usages.{usage_of}
-use Rattle.image_view.specs.Valid.{IsValid}
-use Rattle.first_run.specs.declared.seat.Owed.TheVariants as owing
-use Rattle.first_run.specs.declared.seat.Seat.{Seat}
-use Rattle.first_run.specs.declared.seat.Seat.TheVariants as seats
-use Rattle.first_run.specs.Runs.{IsUnheld, Leads, LeadsFiles, Steps}
-use Rattle.first_run.specs.Uncut.{AreUncut}
-use Rattle.first_run.specs.Seats.{KeepsKeys, HasVolume, owed_of, run_state}
-use Rattle.histories.specs.Fit.{Fits}
-use Rattle.plain_files.specs.declared.history.Placed.{Placed}
-use Rattle.report.specs.Reports.{report}
-use Rattle.shared_disk.specs.Prefixes.{EachImage}
-use Rattle.shared_disk.specs.State.{OnImages, State, Told}
+use Rattle.std.specs.Prelude.{◌≡◌, ◌≢◌, ◌⊎◌, ◌+◌, ◌<◌, ◌≤◌, ◌^◌, ℕ, All, IfSome, IsSome, IsSomeAnd, List, Option, Some, None, false, length, map}
+use Rattle.std.specs.List.{range_with_len}
 use Rattle.vol_base.specs.declared.answer.Answer.{Answer}
 use Rattle.vol_base.specs.Faults.{Rose}
 use Rattle.vol_layout.specs.declared.geometry.Geometry.{Geometry}
+use Rattle.vol_layout.specs.Ranges.{limit}
 use Rattle.vol_layout.specs.Regions.{total}
+use Rattle.shared_disk.specs.Calls.{last_counter}
+use Rattle.shared_disk.specs.Prefixes.{EachImage}
+use Rattle.shared_disk.specs.Seen.{DiskSeen}
+use Rattle.shared_disk.specs.State.{State}
 use Rattle.shared_disk.specs.Visits.{IsVisiting, after_visit}
-use Rattle.volume_opening.specs.declared.open_no.OpenNo.{OpenNo}
-use Rattle.volume_opening.specs.declared.open_no.OpenNo.TheVariants as openings
+use Rattle.plain_files.specs.Plain.{Plain}
+use Rattle.plain_files.specs.declared.history.Placed.{Placed}
+use Rattle.workload.specs.declared.line.Workload.{Workload}
+use Rattle.image_view.specs.Files.{image_file}
+use Rattle.image_view.specs.Images.{Image, IsBlank}
+use Rattle.image_view.specs.Usages.{usage_of}
+use Rattle.image_view.specs.Valid.{IsValid}
+use Rattle.image_view.specs.declared.usage.Usage.{Usage}
+use Rattle.histories.specs.Fit.{Fits}
+use Rattle.host_runs.specs.RunStates.{RunState, opening}
+use Rattle.host_runs.specs.Runs.{AreIdle, Run, RunCall}
+use Rattle.host_runs.specs.Tidy.{HasFreeSlots, IsComplete, IsTidy}
+use Rattle.host_runs.specs.laws.FilesLaws.{IsLed}
+use Rattle.report.specs.Reports.{report}
+use Rattle.schedule.specs.Plays.{IsPlayed, Move, Place}
 use Rattle.volume_opening.specs.Misfits.{misfit}
 use Rattle.volume_opening.specs.Openings.{IsOnTheWay, IsOpened, IsVisited, WasBlank}
-use Rattle.volume_opening.specs.Refusals.{IsLeft, IsRefused}
-use Rattle.volume_opening.specs.Slots.{AreIdle, IsFirstHeld, IsSlotPlace}
-use Rattle.workload.specs.declared.line.Workload.{Workload}
+use Rattle.volume_opening.specs.declared.open_no.OpenNo.{OpenNo}
+use Rattle.volume_opening.specs.declared.open_no.OpenNo.TheVariants as openings
+use Rattle.cluster.specs.Runs.{Facts, IsIdle}
+use Rattle.cluster.specs.Starts.{HasRefused}
+use Rattle.cluster.specs.Views.{ClusterView, PartsView, disk_of}
 use Rattle.jobs.specs.declared.outcome.AfterRun.{AfterRun}
 use Rattle.jobs.specs.declared.outcome.AfterRun.TheVariants as after_runs
 use Rattle.jobs.specs.declared.outcome.Outcome.{Outcome}
 use Rattle.jobs.specs.declared.outcome.Outcome.TheVariants as outcomes
-use Rattle.jobs.specs.declared.outcome.VolumeNo.{VolumeNo}
 use Rattle.jobs.specs.declared.outcome.VolumeNo.TheVariants as refusals
-use Rattle.jobs.specs.declared.status.Status.{Status}
-use Rattle.jobs.specs.declared.status.Status.TheVariants as statuses
-use Rattle.shared_disk.specs.Calls.{last_counter}
 use Rattle.jobs.specs.Checks.{FindsBad, IsAtLast}
-use Rattle.shared_disk.specs.Seen.{DiskSeen}
 
--- the images of an opening: each is the one handed in, or, where that one is blank, one that is blank or formatted
-pub record KeepsImages (g : Geometry) (old new : DiskSeen) : Type 0 where
-  pub each : EachImage (IsOnTheWay g old.state.told) old.state.told new.state.told
-  pub used : (WasBlank old.state.told → ⊥) → new.state.told ≡ old.state.told
+-- the files of an image of this geometry, as plain files; a blank image has none
+abbrev pub files_of : Geometry → Image → Plain
+files_of g image = record { limit = limit g; files = map (λ f. image_file image f) (range_with_len 0 g.files) }
 
--- the device was opened: a volume of this geometry is on it, and a key was registered and fenced
+-- the device was opened: a volume of this geometry is on it, and a key was registered and fenced. Each image on the way is the one
+-- handed in, or, where that one is blank, one that is blank or formatted
 pub record Opens (g : Geometry) (old new : DiskSeen) : Type 0 where
   pub keys : old.state.counter ≢ last_counter
   pub long : total g ≤ old.state.blocks
   pub opened : IsOpened g old.state new.state
   pub visited : IsVisited old.state new.state
-  pub images : KeepsImages g old new
+  pub images : EachImage (IsOnTheWay g old.state.told) old.state.told new.state.told
+  pub used : (WasBlank old.state.told → ⊥) → new.state.told ≡ old.state.told
   pub later : old.faults ≤ new.faults
 
--- the device was not opened for this cause, which says what was met and what is left
-pub record IsUnopened (g : Geometry) (old new : DiskSeen) (cause : OpenNo) : Type 0 where
-  pub keys : (cause ≡ openings.NoKeys) ↔ (old.state.counter ≡ last_counter)
-  pub refused : IsRefused g old.state new.state cause
-  pub left : IsLeft old.state new.state cause
-  pub failed : cause ≡ openings.Failed → Rose old.faults new.faults
-  pub images : KeepsImages g old new
+-- what holds of every run, wherever it stands: answers and history fit the workload; and, where the device tells its content, the history
+-- is legal from the files of the image handed in, the last image is valid and has the files that the history leaves, and each image
+-- from the one handed in on has the files of a front of the history
+pub record IsOwed (w : Workload) (old opened : DiskSeen) (last : RunState) : Type 0 where
+  pub opens : Opens w.geometry old opened
+  pub fits : Fits w.lines last.answers last.history
+  pub led : IfSome old.state.told (λ told. IsLed w (files_of w.geometry told.image) old.state.told last)
 
--- the volume on the device has a slot that is not free; this is the place of the first one. Nothing but the counter
--- has changed.
-pub record FindsHeld (g : Geometry) (old new : DiskSeen) (place : ℕ) : Type 0 where
-  pub opens : Opens g old new
-  pub slot : IsSlotPlace g place
-  pub held : IfSome old.state.told (λ told. IsFirstHeld g told.image place)
-  pub left : new.state ≡ after_visit old.state
+-- the image is blank, or has no slot that is not free
+abbrev pub IsUnused : Geometry → Image → Type 0
+IsUnused g image = IsBlank image ⊎ HasFreeSlots g image
 
--- a run of all lines: the device when it was opened and behind the last line, the seat of host 0 then, and what the
--- lines got
-pub record Run : Type 0 where
-  pub opened : DiskSeen
-  pub closed : DiskSeen
-  pub seat : Seat
-  pub answers : List (Option Answer)
-  pub history : List Placed
+-- a tidy workload, a device that tells an image without a host, and no fault of it until the last state
+pub record IsTidyRun (w : Workload) (old last : DiskSeen) : Type 0 where
+  pub tidy : IsTidy w.lines
+  pub unused : IsSomeAnd old.state.told (λ told. IsUnused w.geometry told.image)
+  pub quiet : Rose old.faults last.faults → ⊥
 
--- the run of a workload on a device that tells this at the end of the job
-pub record IsRunOf (w : Workload) (old : DiskSeen) (last : Option Told) (run : Run) : Type 0 where
-  -- it began on an opened volume whose slots are all free
-  pub opens : Opens w.geometry old run.opened
-  pub free : IfSome run.opened.state.told (λ told. AreIdle w.geometry told.image w.geometry.hosts)
-  -- each line was one step, and the steps lead from the opened state, in which host 0 is out and owes nothing, to the
-  -- closed one
-  pub steps : Steps w.geometry 0 w.lines run.answers run.history
-      (run_state run.opened.state run.opened.faults (seats.Out owing.Nothing)) (run_state run.closed.state run.closed.faults run.seat)
-  -- each line has an answer, and answers and history fit the lines
-  pub positions : length run.answers ≡ length w.lines
-  pub answered : All (λ answer. IsSome answer) run.answers
-  pub fits : Fits w.lines run.answers run.history
-  -- the history is legal from the files of the image handed in, and the last image has the files that it leaves
-  pub files : OnImages (LeadsFiles w.geometry w.lines run.history) old.state.told last
-  pub ends : last ≡ run.closed.state.told
-  -- of the closed state's volume the counts alone that host 0 owes are not written
-  pub volume : HasVolume w.geometry run.closed.state (owed_of run.seat)
-  -- where no command was cut, it owes none: the volume is valid
-  pub valid : AreUncut run.answers → IfSome run.closed.state.told (λ told. IsValid w.geometry run.closed.state.counter told.image)
-  pub later : run.opened.faults ≤ run.closed.faults
-  -- no key was taken off
-  pub keys : KeepsKeys run.opened.state run.closed.state
+-- who makes the next turn: the words of a schedule and then rounds say it, or threads, in any order
+pub data Schedule : Type 0 where
+  ByWords : List ℕ → Schedule
+  ByThreads : Schedule
+
+-- the turns of a run are those of its schedule, from the opened device to its last state; of threads nothing is said
+abbrev pub IsBy : Schedule → Workload → DiskSeen → RunState → Type 0
+IsBy (ByWords hosts) w opened last =
+    (moves : List Move) × (end : Place) × IsPlayed w (record { words = hosts; next = 0 }) (opening w opened) moves end last
+IsBy ByThreads w opened last = Unit {0}
+
+-- the run of a workload to its end
+pub record IsRunOf (w : Workload) (schedule : Schedule) (old opened : DiskSeen) (last : RunState) : Type 0 where
+  pub owed : IsOwed w old opened last
+  -- calls of a run lead from the opened device to the last state, in which no host has a command left, in the last phase
+  pub calls : List RunCall
+  pub run : Run w (opening w opened) calls last
+  pub by : IsBy schedule w opened last
+  pub idle : AreIdle w last
+  pub ended : w.phases ≤ last.phase + 1
+  -- each line has an answer
+  pub positions : length last.answers ≡ length w.lines
+  pub answered : All (λ answer. IsSome answer) last.answers
+  -- and one that serves it, where all is in order
+  pub served : IsTidyRun w old last.device → IsComplete w.lines last.answers
 
 -- the survey of the volume that a run left counted what of it is used, under a key that was registered and fenced, and
 -- these bytes are the report with that usage
@@ -119,10 +116,25 @@ IsUnsurveyedFor g closed new (after_runs.Misread place) = (closed.state.counter 
 
 -- the survey was refused for this cause, its visit may have been broken off, and these bytes are the report without a
 -- usage
-pub record IsReportedWithout (w : Workload) (answers : List (Option Answer)) (history : List Placed) (closed new : DiskSeen) (bytes : List ℕ) (cause : AfterRun) : Type 0 where
+pub record IsReportedWithout (w : Workload) (answers : List (Option Answer)) (history : List Placed) (closed new : DiskSeen) (bytes : List ℕ)
+    (cause : AfterRun) : Type 0 where
   pub text : bytes ≡ report w answers history None
   pub refused : IsUnsurveyedFor w.geometry closed new cause
   pub visiting : IsVisiting closed.state new.state
+
+-- a cluster at the end of its run: its volume is valid, each line has an answer, and each entry is of a line
+pub record HasEnded (v : PartsView) : Type 0 where
+  pub valid : IfSome (disk_of v).state.told (λ told. IsValid v.workload.geometry (disk_of v).state.counter told.image)
+  pub positions : length v.ledger.answers ≡ length v.workload.lines
+  pub answered : All (λ answer. IsSome answer) v.ledger.answers
+  pub placed : All (λ entry. entry.line < length v.workload.lines) v.ledger.history
+
+-- and one whose hosts are all idle in the last phase, and which was refused no memory
+pub record IsOver (c : ClusterView) : Type 0 where
+  pub idle : IsIdle c.parts
+  pub last : c.parts.workload.phases ≤ c.parts.phase + 1
+  pub live : c.spent ≡ false
+  pub facts : Facts c
 
 -- what is decided behind the last line
 abbrev pub Concludes : Workload → List (Option Answer) → List Placed → DiskSeen → DiskSeen → Outcome → Type 0
@@ -144,44 +156,27 @@ IsReportWithoutOr bytes cause outcomes.Memory = Unit {0}
 IsReportWithoutOr bytes cause outcome = ⊥
 
 -- the workload was run, and these bytes are its report
-pub record IsDone (w : Workload) (old new : DiskSeen) (bytes : List ℕ) : Type 0 where
-  pub run : Run
-  pub ran : IsRunOf w old new.state.told run
-  pub reported : IsReported w run.answers run.history run.closed new bytes
+pub record IsDone (w : Workload) (schedule : Schedule) (old new : DiskSeen) (bytes : List ℕ) : Type 0 where
+  pub opened : DiskSeen
+  pub last : RunState
+  pub ran : IsRunOf w schedule old opened last
+  pub reported : IsReported w last.answers last.history last.device new bytes
 
 -- the workload was run, the survey was refused for this cause, and these bytes are the report without a usage
-pub record IsUnsurveyed (w : Workload) (old new : DiskSeen) (bytes : List ℕ) (cause : AfterRun) : Type 0 where
-  pub run : Run
-  pub ran : IsRunOf w old new.state.told run
-  pub reported : IsReportedWithout w run.answers run.history run.closed new bytes cause
+pub record IsUnsurveyed (w : Workload) (schedule : Schedule) (old new : DiskSeen) (bytes : List ℕ) (cause : AfterRun) : Type 0 where
+  pub opened : DiskSeen
+  pub last : RunState
+  pub ran : IsRunOf w schedule old opened last
+  pub reported : IsReportedWithout w last.answers last.history last.device new bytes cause
 
--- memory was refused in the opening, or behind it, and then the files of the last image are those that some history
--- leaves which fits the lines and is legal from the files of the image handed in, and no key was taken off
-abbrev pub IsOutOfMemory : Workload → DiskSeen → DiskSeen → Type 0
-IsOutOfMemory w old new =
-    IsUnopened w.geometry old new openings.NoMemory
-    ⊎ ((old.state.counter ≢ last_counter) × OnImages (Leads w.geometry w.lines) old.state.told new.state.told × KeepsKeys old.state new.state)
-
--- why a volume is refused to a run
-abbrev pub RunRefuses : Geometry → DiskSeen → DiskSeen → VolumeNo → Type 0
-RunRefuses g old new (refusals.Faults faults) = IsUnopened g old new (openings.Faults faults)
-RunRefuses g old new refusals.Blank = ⊥
-RunRefuses g old new (refusals.NoKeys counter) = (counter ≡ last_counter) × IsUnopened g old new openings.NoKeys
-RunRefuses g old new (refusals.Busy key) = ⊥
-RunRefuses g old new (refusals.Held place) = FindsHeld g old new place
-RunRefuses g old new (refusals.Misread place) = ⊥
-
--- what the run of a workload decides
-abbrev pub RunDecides : Workload → DiskSeen → DiskSeen → Outcome → Type 0
-RunDecides w old new (outcomes.Done report) = IsDone w old new report.items
-RunDecides w old new (outcomes.Unsurveyed report cause) = IsUnsurveyed w old new report.items cause
-RunDecides w old new outcomes.Usage = ⊥
-RunDecides w old new (outcomes.Workload line cause) = ⊥
-RunDecides w old new (outcomes.Volume refusal) = RunRefuses w.geometry old new refusal
-RunDecides w old new outcomes.DiskFault = IsUnopened w.geometry old new openings.Failed
-RunDecides w old new outcomes.ReadFault = ⊥
-RunDecides w old new outcomes.Memory = IsOutOfMemory w old new
-RunDecides w old new (outcomes.Geometry given found) = IsUnopened w.geometry old new (openings.Geometry given found)
+-- the device was opened, and some run of the workload has all that runs are owed; the content that is left is that of its last state
+pub record HasSomeRun (w : Workload) (old new : DiskSeen) : Type 0 where
+  pub opened : DiskSeen
+  pub last : RunState
+  pub owed : IsOwed w old opened last
+  pub calls : List RunCall
+  pub run : Run w (opening w opened) calls last
+  pub left : new.state.told ≡ last.device.state.told
 
 -- what an opening's refusal decides
 abbrev pub unopened : OpenNo → Outcome
@@ -191,20 +186,27 @@ unopened openings.NoKeys = outcomes.Volume (refusals.NoKeys last_counter)
 unopened openings.Failed = outcomes.DiskFault
 unopened openings.NoMemory = outcomes.Memory
 
--- the two statuses to which the others of a run yield
-abbrev pub IsYieldedTo : Status → Type 0
-IsYieldedTo statuses.DiskFault = Unit {0}
-IsYieldedTo statuses.Memory = Unit {0}
-IsYieldedTo status = ⊥
+-- the device was not opened, and this is decided for the cause
+pub record IsUnopened (g : Geometry) (old new : DiskSeen) (outcome : Outcome) : Type 0 where
+  pub cause : OpenNo
+  pub is : outcome ≡ unopened cause
+  pub refused : HasRefused g old cause new
+
+-- what the run of a workload decides
+abbrev pub RunDecides : Workload → Schedule → DiskSeen → DiskSeen → Outcome → Type 0
+RunDecides w schedule old new (outcomes.Done report) = IsDone w schedule old new report.items
+RunDecides w schedule old new (outcomes.Unsurveyed report cause) = IsUnsurveyed w schedule old new report.items cause
+RunDecides w schedule old new outcomes.Memory = IsUnopened w.geometry old new outcomes.Memory ⊎ HasSomeRun w old new
+RunDecides w schedule old new outcome = IsUnopened w.geometry old new outcome
 
 -- the device tells an image on which the geometry does not fit, as these numbers say, and its counter is not at its end
 pub record IsUnfit (g : Geometry) (s : State) (given found : ℕ) : Type 0 where
   pub keys : s.counter ≢ last_counter
   pub misfit : IsSomeAnd s.told (λ told. misfit g s.blocks told.image ≡ Some (given, found))
 
--- the image is blank, or a valid volume of this geometry whose slots are all free
+-- the image is blank, or a valid volume of this geometry
 abbrev pub MayBegin : Geometry → ℕ → Image → Type 0
-MayBegin g counter image = IsBlank image ⊎ IsUnheld g counter image
+MayBegin g counter image = IsBlank image ⊎ IsValid g counter image
 
 -- the geometry fits, but no run may begin on the image
 pub record IsWrong (g : Geometry) (blocks counter : ℕ) (image : Image) : Type 0 where

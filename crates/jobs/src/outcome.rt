@@ -18,8 +18,6 @@ pub enum VolumeNo {
     NoKeys(u64),
     /// A slot or a lock is held under this key.
     Busy(Key),
-    /// The slot at this place, the first that is not free, is in the way of a run.
-    Held(u64),
     /// The block at this place was not of its kind when it was read after the check.
     Misread(u64),
 }

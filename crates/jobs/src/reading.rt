@@ -1,11 +1,10 @@
 // The workload that a source gives.
-ghost use Rattle.std.specs.Prelude.{◌≡◌, ◌+◌, ◌<◌, ◌≤◌, ◌^◌, All, IfErr, IfOk, find, length, not};
+ghost use Rattle.std.specs.Prelude.{◌≡◌, ◌+◌, All, IfErr, IfOk, find, not};
+ghost use Rattle.cluster.specs.Agreements.{IsKnownLine};
 ghost use Rattle.workload.specs.Grammar.{most_bytes};
-ghost use Rattle.vol_layout.specs.Ranges.{IsGeometry};
-ghost use Rattle.first_run.specs.Runs.{IsBuiltLine};
-ghost use Rattle.histories.specs.Phases.{ArePhased};
+ghost use Rattle.workload.specs.Workloads.{IsWorkload};
 ghost use Rattle.jobs.specs.Seen.{source_by};
-ghost use Rattle.jobs.specs.Built.{built_workload_of, first_unbuilt, first_unbuilt_line, is_built, is_built_command};
+ghost use Rattle.jobs.specs.Built.{built_workload_of, first_unbuilt, is_built};
 ghost use Rattle.jobs.specs.Readings.{IsReadingOf};
 ghost use Rattle.jobs.specs.Sources.{IsRead, StopsReading, TakesAtMost};
 
@@ -26,11 +25,8 @@ pub fn read_workload<S: Source>(alloc: Global, source: &mut S) -> Result<Workloa
     ensures err { IfErr result (StopsReading (source_by S.Source source.old)
         (source_by S.Source source.new)) }
     ensures taken { TakesAtMost (most_bytes + 1) (source_by S.Source source.old) (source_by S.Source source.new) }
-    ensures later { S.faults source.old ≤ S.faults source.new }
-    ensures geometry { IfOk result (λ workload. IsGeometry workload.geometry) }
-    ensures lines { IfOk result (λ workload. All (IsBuiltLine workload.geometry) workload.lines) }
-    ensures few { IfOk result (λ workload. length workload.lines < 2 ^ 32) }
-    ensures phased { IfOk result (λ workload. ArePhased workload.lines) }
+    ensures workload { IfOk result IsWorkload }
+    ensures known { IfOk result (λ workload. All IsKnownLine workload.lines) }
 {
     let text = match read_all(alloc, source, MOST_BYTES) {
         Ok(text) => text,
@@ -51,36 +47,24 @@ fn refused(line: u32, cause: WorkloadNo) -> Outcome
 #[tactic(auto, unfolding(crate::specs::Built::built_workload_of))]
 fn built_workload(alloc: Global, text: &[u8]) -> Result<Workload, Outcome>
     ensures is { IsReadingOf (built_workload_of text.now) result }
-    ensures geometry { IfOk result (λ workload. IsGeometry workload.geometry) }
-    ensures lines { IfOk result (λ workload. All (IsBuiltLine workload.geometry) workload.lines) }
-    ensures few { IfOk result (λ workload. length workload.lines < 2 ^ 32) }
-    ensures phased { IfOk result (λ workload. ArePhased workload.lines) }
+    ensures workload { IfOk result IsWorkload }
+    ensures known { IfOk result (λ workload. All IsKnownLine workload.lines) }
 {
     let workload = match parse(alloc, text) {
         Ok(workload) => workload,
         Err(ParseNo::Refused { line, cause }) => return Err(refused(line, cause)),
         Err(ParseNo::NoMemory) => return Err(Outcome::Memory),
     };
-    match first_unbuilt(&workload) {
+    match first_unbuilt(workload.lines.as_slice()) {
         Some(line) => Err(refused(line, WorkloadNo::Word)),
         None => Ok(workload),
     }
 }
 
 // The number, in the text, of the first line that is not built.
-fn first_unbuilt(workload: &Workload) -> Option<u32>
-    ensures { result ≡ first_unbuilt workload.now }
-{
-    if workload.geometry.tables == 1 {
-        first_unbuilt_line(workload.lines.as_slice())
-    } else {
-        Some(1)
-    }
-}
-
-#[tactic(auto, unfolding(crate::specs::Built::first_unbuilt_line))]
-fn first_unbuilt_line(lines: &[Line]) -> Option<u32>
-    ensures { result ≡ first_unbuilt_line lines.now }
+#[tactic(auto, unfolding(crate::specs::Built::first_unbuilt))]
+fn first_unbuilt(lines: &[Line]) -> Option<u32>
+    ensures { result ≡ first_unbuilt lines.now }
 {
     match find_unbuilt(lines) {
         Some(line) => Some(line.at),
@@ -89,26 +73,21 @@ fn first_unbuilt_line(lines: &[Line]) -> Option<u32>
 }
 
 fn find_unbuilt(lines: &[Line]) -> Option<Line>
-    ensures { result ≡ find (λ line. not (is_built line)) lines.now }
+    ensures { result ≡ find (λ line. not (is_built line.command)) lines.now }
 {
-    lines.iter().copied().find(|line| !is_built(line))
+    lines.iter().copied().find(|line| !is_built(&line.command))
 }
 
-fn is_built(line: &Line) -> bool
-    ensures { result ≡ is_built line.now }
-{
-    line.host == 0 && is_built_command(&line.command)
-}
-
-fn is_built_command(command: &Command) -> bool
-    ensures { result ≡ is_built_command command.now }
+fn is_built(command: &Command) -> bool
+    ensures { result ≡ is_built command.now }
 {
     match *command {
-        Command::Join
-        | Command::Create(_)
-        | Command::Size(_, _)
-        | Command::Write(_, _, _)
-        | Command::Read(_, _) => true,
-        _ => false,
+        Command::Log
+        | Command::Scan(_, _)
+        | Command::Merge
+        | Command::Serve
+        | Command::Collect(_)
+        | Command::Scribble(_, _, _) => false,
+        _ => true,
     }
 }

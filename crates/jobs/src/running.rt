@@ -1,45 +1,50 @@
 // The run of a workload, once it is read.
-ghost use Rattle.std.specs.Prelude.{◌≡◌, ◌<◌, ◌≤◌, ◌^◌, All, IsSome, None, Some, length};
-ghost use Rattle.first_run.specs.Runs.{IsBuiltLine};
-ghost use Rattle.first_run.specs.Seats.{HasVolume, owed_of};
-ghost use Rattle.histories.specs.Phases.{ArePhased};
+ghost use Rattle.std.specs.Prelude.{◌≡◌, ◌<◌, All, IfSome, IsSome, None, Some, length};
+ghost use Rattle.cluster.specs.Agreements.{IsKnownLine};
+ghost use Rattle.cluster.specs.Views.{disk_of};
+ghost use Rattle.image_view.specs.Valid.{IsValid};
 ghost use Rattle.report.specs.Reports.{report};
-ghost use Rattle.vol_layout.specs.Ranges.{IsGeometry};
 ghost use Rattle.shared_disk.specs.Seen.{seen_by};
-ghost use Rattle.jobs.specs.Runs.{Concludes, IsReportOr, IsReportWithoutOr, RunDecides, unopened};
+ghost use Rattle.workload.specs.Workloads.{IsWorkload};
+ghost use Rattle.jobs.specs.Runs.{ByWords, Concludes, HasEnded, IsReportOr, IsReportWithoutOr, RunDecides, unopened};
 
 use crate::outcome::{AfterRun, Outcome, VolumeNo};
-use first_run::{Ran, run};
+use cluster::Cluster;
 use image_view::{SurveyNo, Usage};
+use plain_files::Placed;
+use schedule::play;
 use shared_disk::{Device, LAST_COUNTER};
 use std::alloc::Global;
-use vol_base::NoMemory;
+use vol_base::{Answer, HostNo, NoMemory};
 use volume_check::survey;
-use volume_opening::{OpenNo, open_idle};
+use volume_opening::OpenNo;
 use workload::Workload;
 
-/// Opens a device, runs a workload on it for host 0, and surveys the volume that the run left.
-pub fn run_workload<D: Device>(alloc: Global, disk: &mut D, workload: &Workload) -> Outcome
-    requires geometry { IsGeometry workload.now.geometry }
-    requires lines { All (IsBuiltLine workload.now.geometry) workload.now.lines }
-    requires few { length workload.now.lines < 2 ^ 32 }
-    requires phased { ArePhased workload.now.lines }
-    ensures decided { RunDecides workload.now (seen_by D.Device disk.old) (seen_by D.Device disk.new) result }
-    ensures blocks { (D.state disk.new).blocks ≡ (D.state disk.old).blocks }
-    ensures later { D.faults disk.old ≤ D.faults disk.new }
+/// Opens a device, runs a workload on it by the schedule of these hosts, and surveys the volume that the run
+/// left; the device is handed back.
+pub fn run_workload<D: Device>(
+    alloc: Global,
+    disk: D,
+    workload: Workload,
+    hosts: &[HostNo],
+) -> (Outcome, D)
+    requires workload { IsWorkload workload }
+    requires known { All IsKnownLine workload.lines }
+    ensures decided { RunDecides workload (ByWords hosts.now) (seen_by D.Device disk) (seen_by D.Device result.1) result.0 }
+    ensures blocks { (D.state result.1).blocks ≡ (D.state disk).blocks }
 {
-    match open_idle(alloc, disk, &workload.geometry) {
-        Ok(None) => {}
-        Ok(Some(place)) => return Outcome::Volume(VolumeNo::Held(place)),
-        Err(refusal) => return unopened(refusal),
-    }
-    match run(alloc, disk, &workload.geometry, workload.lines.as_slice()) {
-        Ok(ran) => conclude(alloc, disk, workload, &ran),
-        Err(NoMemory) => Outcome::Memory,
+    let mut cluster = match Cluster::start(alloc, disk, workload) {
+        Ok(cluster) => cluster,
+        Err((refusal, disk)) => return (unopened(refusal), disk),
+    };
+    match play(&mut cluster, hosts) {
+        Ok(()) => finish(alloc, cluster),
+        Err(NoMemory) => (Outcome::Memory, cluster.close().disk),
     }
 }
 
-fn unopened(refusal: OpenNo) -> Outcome
+// What a refused opening decides.
+pub fn unopened(refusal: OpenNo) -> Outcome
     ensures { result ≡ unopened refusal }
 {
     match refusal {
@@ -51,50 +56,89 @@ fn unopened(refusal: OpenNo) -> Outcome
     }
 }
 
+// Closes a cluster whose run is at its end, and concludes.
+pub fn finish<D: Device>(alloc: Global, cluster: Cluster<D>) -> (Outcome, D)
+    requires ended { HasEnded cluster.parts }
+    ensures concluded { Concludes cluster.parts.workload cluster.parts.ledger.answers cluster.parts.ledger.history
+        (disk_of cluster.parts) (seen_by D.Device result.1) result.0 }
+    ensures told { (D.state result.1).told ≡ (disk_of cluster.parts).state.told }
+    ensures blocks { (D.state result.1).blocks ≡ (disk_of cluster.parts).state.blocks }
+{
+    let closed = cluster.close();
+    let mut disk = closed.disk;
+    let outcome = conclude(
+        alloc,
+        &mut disk,
+        &closed.workload,
+        &closed.answers,
+        &closed.history,
+    );
+    (outcome, disk)
+}
+
 // Surveys the volume behind the last line, and makes the report.
-fn conclude<D: Device>(alloc: Global, disk: &mut D, workload: &Workload, ran: &Ran) -> Outcome
-    requires volume { HasVolume workload.now.geometry (D.state disk.old) (owed_of ran.now.seat) }
-    requires positions { length ran.now.answers.items ≡ length workload.now.lines }
-    requires answered { All (λ answer. IsSome answer) ran.now.answers.items }
-    requires placed { All (λ entry. entry.line < length workload.now.lines) ran.now.history.items }
-    ensures concluded { Concludes workload.now ran.now.answers.items ran.now.history.items
-        (seen_by D.Device disk.old) (seen_by D.Device disk.new) result }
+fn conclude<D: Device>(
+    alloc: Global,
+    disk: &mut D,
+    workload: &Workload,
+    answers: &[Option<Answer>],
+    history: &[Placed],
+) -> Outcome
+    requires volume { IfSome (D.state disk.old).told (λ told. IsValid workload.now.geometry (D.state disk.old).counter told.image) }
+    requires positions { length answers.now ≡ length workload.now.lines }
+    requires answered { All (λ answer. IsSome answer) answers.now }
+    requires placed { All (λ entry. entry.line < length workload.now.lines) history.now }
+    ensures concluded { Concludes workload.now answers.now history.now (seen_by D.Device disk.old) (seen_by D.Device disk.new) result }
     ensures told { (D.state disk.new).told ≡ (D.state disk.old).told }
     ensures blocks { (D.state disk.new).blocks ≡ (D.state disk.old).blocks }
-    ensures later { D.faults disk.old ≤ D.faults disk.new }
 {
     match survey(alloc, disk, Some(workload.geometry)) {
-        Ok(usage) => report_with(alloc, workload, ran, &usage),
+        Ok(usage) => report_with(alloc, workload, answers, history, &usage),
         Err(SurveyNo::NoMemory) => Outcome::Memory,
-        Err(SurveyNo::Failed) => report_without(alloc, workload, ran, AfterRun::DiskFault),
+        Err(SurveyNo::Failed) => {
+            report_without(alloc, workload, answers, history, AfterRun::DiskFault)
+        }
         Err(SurveyNo::NoKeys) => {
-            report_without(alloc, workload, ran, AfterRun::NoKeys(LAST_COUNTER))
+            let cause = AfterRun::NoKeys(LAST_COUNTER);
+            report_without(alloc, workload, answers, history, cause)
         }
         Err(SurveyNo::Bad(place)) => {
-            report_without(alloc, workload, ran, AfterRun::Misread(place))
+            report_without(alloc, workload, answers, history, AfterRun::Misread(place))
         }
     }
 }
 
-fn report_with(alloc: Global, workload: &Workload, ran: &Ran, usage: &Usage) -> Outcome
-    requires positions { length ran.now.answers.items ≡ length workload.now.lines }
-    requires answered { All (λ answer. IsSome answer) ran.now.answers.items }
-    requires placed { All (λ entry. entry.line < length workload.now.lines) ran.now.history.items }
-    ensures { IsReportOr (report workload.now ran.now.answers.items ran.now.history.items (Some usage.now)) result }
+fn report_with(
+    alloc: Global,
+    workload: &Workload,
+    answers: &[Option<Answer>],
+    history: &[Placed],
+    usage: &Usage,
+) -> Outcome
+    requires positions { length answers.now ≡ length workload.now.lines }
+    requires answered { All (λ answer. IsSome answer) answers.now }
+    requires placed { All (λ entry. entry.line < length workload.now.lines) history.now }
+    ensures { IsReportOr (report workload.now answers.now history.now (Some usage.now)) result }
 {
-    match report::text(alloc, workload, &ran.answers, &ran.history, Some(usage)) {
+    match report::text(alloc, workload, answers, history, Some(usage)) {
         Ok(report) => Outcome::Done(report),
         Err(NoMemory) => Outcome::Memory,
     }
 }
 
-fn report_without(alloc: Global, workload: &Workload, ran: &Ran, cause: AfterRun) -> Outcome
-    requires positions { length ran.now.answers.items ≡ length workload.now.lines }
-    requires answered { All (λ answer. IsSome answer) ran.now.answers.items }
-    requires placed { All (λ entry. entry.line < length workload.now.lines) ran.now.history.items }
-    ensures { IsReportWithoutOr (report workload.now ran.now.answers.items ran.now.history.items None) cause result }
+fn report_without(
+    alloc: Global,
+    workload: &Workload,
+    answers: &[Option<Answer>],
+    history: &[Placed],
+    cause: AfterRun,
+) -> Outcome
+    requires positions { length answers.now ≡ length workload.now.lines }
+    requires answered { All (λ answer. IsSome answer) answers.now }
+    requires placed { All (λ entry. entry.line < length workload.now.lines) history.now }
+    ensures { IsReportWithoutOr (report workload.now answers.now history.now None) cause result }
 {
-    match report::text(alloc, workload, &ran.answers, &ran.history, None) {
+    match report::text(alloc, workload, answers, history, None) {
         Ok(report) => Outcome::Unsurveyed { report, cause },
         Err(NoMemory) => Outcome::Memory,
     }

@@ -33,7 +33,7 @@ fn refusal_text(alloc: Global, refusal: VolumeNo) -> Result<Vec<u8>, NoMemory>
         VolumeNo::Blank => line(alloc, "volume block 0: blank"),
         VolumeNo::NoKeys(counter) => keys_line(alloc, counter),
         VolumeNo::Busy(key) => busy_line(alloc, key.0),
-        VolumeNo::Held(place) | VolumeNo::Misread(place) => spelling_line(alloc, place),
+        VolumeNo::Misread(place) => spelling_line(alloc, place),
     }
 }
 

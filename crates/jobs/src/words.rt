@@ -1,25 +1,55 @@
 // The words of the command line.
-ghost use Rattle.std.specs.Prelude.{◌≡◌, map, string_bytes};
-ghost use Rattle.jobs.specs.Words.{is_plain, job_named, job_of};
+ghost use Rattle.std.specs.Prelude.{◌≡◌, ◌<◌, IfOk, filter_map, is_some, map, string_bytes};
+ghost use Rattle.std.specs.List.{list_all};
+ghost use Rattle.jobs.specs.Words.{digit_of, host_of, hosts_of, is_plain, is_schedule, job_named, job_of};
+
+use std::alloc::Global;
+use vol_base::{HostNo, NoMemory};
 
 /// A job of the program.
 #[derive(Clone, Copy, Debug, PartialEq, Eq)]
 pub enum Job {
     /// Runs the workload that the source gives.
     Sim,
+    /// Runs it with a thread for each host.
+    Run,
     /// Checks the volume.
     Check,
 }
 
-/// The job of the words behind the program's name: `VOLUME sim` or `VOLUME check`, where VOLUME is not
-/// empty and does not begin with `-`. For any other words it answers `None`.
+// The most words of a schedule.
+const MOST_HOSTS: usize = 65_536;
+
+/// The job of the words behind the program's name: `VOLUME sim HOST..`, `VOLUME run` or `VOLUME check`, where VOLUME is not
+/// empty and does not begin with `-`, and each HOST is a number from `0` to `15`. For any other words it
+/// answers `None`.
 pub fn job_of(words: &[String]) -> Option<Job>
     ensures { result ≡ job_of (map string_bytes words.now) }
 {
     match words {
-        [volume, name] if is_plain(volume.as_str()) => job_named(name.as_str()),
+        [volume, name, ..] if is_plain(volume.as_str()) => job_named(name.as_str(), &words[2..]),
         _ => None,
     }
+}
+
+/// The hosts of a schedule, in the order of their words behind the name of the job.
+pub fn hosts_of(alloc: Global, words: &[String]) -> Result<Vec<HostNo>, NoMemory>
+    ensures { IfOk result (λ hosts. hosts.items ≡ hosts_of (map string_bytes words.now)) }
+{
+    match words {
+        [_, _, ..] => hosts_in(alloc, &words[2..]),
+        _ => Ok(Vec::new(alloc)),
+    }
+}
+
+fn hosts_in(alloc: Global, words: &[String]) -> Result<Vec<HostNo>, NoMemory>
+    ensures { IfOk result (λ hosts. hosts.items ≡ filter_map (λ word. host_of (string_bytes word)) words.now) }
+{
+    let hosts = words
+        .iter()
+        .filter_map(|word| host_of(word.as_str()))
+        .collect(alloc)?;
+    Ok(hosts)
 }
 
 fn is_plain(word: &str) -> bool
@@ -31,13 +61,51 @@ fn is_plain(word: &str) -> bool
     }
 }
 
-fn job_named(word: &str) -> Option<Job>
-    ensures { result ≡ job_named word.now }
+fn job_named(name: &str, rest: &[String]) -> Option<Job>
+    ensures { result ≡ job_named name.now (map string_bytes rest.now) }
 {
-    if word == "sim" {
+    if name == "sim" && is_schedule(rest) {
         Some(Job::Sim)
-    } else if word == "check" {
+    } else if name == "run" && rest.is_empty() {
+        Some(Job::Run)
+    } else if name == "check" && rest.is_empty() {
         Some(Job::Check)
+    } else {
+        None
+    }
+}
+
+fn is_schedule(words: &[String]) -> bool
+    ensures { result ≡ is_schedule (map string_bytes words.now) }
+{
+    words.len() <= MOST_HOSTS && are_hosts(words)
+}
+
+fn are_hosts(words: &[String]) -> bool
+    ensures { result ≡ list_all (λ word. is_some (host_of (string_bytes word))) words.now }
+{
+    words.iter().all(|word| host_of(word.as_str()).is_some())
+}
+
+// The host that a word names.
+fn host_of(word: &str) -> Option<HostNo>
+    ensures { result ≡ host_of word.now }
+{
+    match word.as_bytes() {
+        [digit] => digit_of(0, 9, *digit),
+        [b'1', digit] => digit_of(10, 5, *digit),
+        _ => None,
+    }
+}
+
+// The number that a digit of at most this value makes of the tens before it.
+fn digit_of(tens: u8, most: u8, digit: u8) -> Option<HostNo>
+    requires tens { tens < 11 }
+    requires most { most < 10 }
+    ensures { result ≡ digit_of tens most digit }
+{
+    if b'0' <= digit && digit <= b'0' + most {
+        Some(tens + (digit - b'0'))
     } else {
         None
     }

@@ -4,6 +4,7 @@ pub mod Cuts
 pub mod Fetched
 pub mod Holds
 pub mod KeptTables
+pub mod MadeCalls
 pub mod OtherReaders
 pub mod PlacedCalls
 pub mod QuietCalls

@@ -13,6 +13,7 @@ pub mod HoldStarts
 pub mod HoldTries
 pub mod HoldWords
 pub mod HoldWrites
+pub mod MadeCallLaws
 pub mod NoCallLaws
 pub mod PlacedLaws
 pub mod QuietCallLaws
@@ -22,3 +23,4 @@ pub mod StepLaws
 pub mod TableOrderLaws
 pub mod TakenLaws
 pub mod TurnLaws
+pub mod VolumeSteps

@@ -5,6 +5,7 @@ ghost use Rattle.vol_layout.specs.Ranges.{per_table};
 ghost use Rattle.host_facts.specs.Others.{Others};
 ghost use Rattle.plan_parts.specs.Applies.{IsApplying, Went};
 ghost use Rattle.plan_parts.specs.Cuts.{IsCut};
+ghost use Rattle.plan_parts.specs.MadeCalls.{AppliedSo};
 
 use crate::kept::Kept;
 use crate::kepts::Kepts;
@@ -39,6 +40,7 @@ impl Applying {
         requires host { host < world.old.locks.geometry.hosts }
         requires stands { IsApplying world.old host self.old.entry.edits self.old.left }
         ensures went { IfOk result (Went host world.old world.new self.old.entry.edits self.old.left self.new.left) }
+        ensures so { IfOk result (AppliedSo host world.old world.new) }
         ensures entry { self.new.entry ≡ self.old.entry }
         ensures cut { IfErr result (IsCut host world.old world.new) }
         ensures others { Others host world.old world.new }
@@ -60,6 +62,7 @@ impl Applying {
         requires host { host < world.old.locks.geometry.hosts }
         requires stands { IsApplying world.old host self.now.entry.edits (kept ∷ self.now.left) }
         ensures went { IfOk result (Went host world.old world.new self.now.entry.edits (kept ∷ self.now.left) self.now.left) }
+        ensures so { IfOk result (AppliedSo host world.old world.new) }
         ensures cut { IfErr result (IsCut host world.old world.new) }
         ensures others { Others host world.old world.new }
     {
@@ -87,6 +90,7 @@ fn end<D: Device>(entry: &Record, world: &mut MetaWorld<D>, host: HostNo) -> Res
     requires host { host < world.old.locks.geometry.hosts }
     requires stands { IsApplying world.old host entry.now.edits [] }
     ensures went { IfOk result (Went host world.old world.new entry.now.edits [] []) }
+    ensures so { IfOk result (AppliedSo host world.old world.new) }
     ensures cut { IfErr result (IsCut host world.old world.new) }
     ensures others { Others host world.old world.new }
 {

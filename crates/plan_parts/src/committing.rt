@@ -9,6 +9,7 @@ ghost use Rattle.lock_store.specs.Views.{key_at};
 ghost use Rattle.plan_parts.specs.Commits.{Committed};
 ghost use Rattle.plan_parts.specs.Cuts.{IsCut};
 ghost use Rattle.plan_parts.specs.KeptTables.{AreKept};
+ghost use Rattle.plan_parts.specs.MadeCalls.{CommittedSo};
 ghost use Rattle.plan_parts.specs.TableOrder.{tables_of};
 ghost use Rattle.plan_parts.specs.declared.kept.Kept.{Kept};
 ghost use Rattle.vol_layout.specs.Edits.{IsEdit};
@@ -35,6 +36,7 @@ pub fn commit<D: Device>(
     requires kept { AreKept world.old host left.now }
     requires order { map (λ (k : Kept). k.which) left.now ≡ tables_of entry.now.edits }
     ensures went { OnOk result (Committed host world.old world.new entry.now left.now) }
+    ensures so { OnOk result (CommittedSo host world.old world.new entry.now) }
     ensures cut { IfErr result (IsCut host world.old world.new) }
     ensures others { Others host world.old world.new }
 {

@@ -9,6 +9,7 @@ ghost use Rattle.lock_store.specs.Memories.{holds};
 ghost use Rattle.lock_store.specs.Views.{host_at};
 ghost use Rattle.plan_parts.specs.Cuts.{IsCut};
 ghost use Rattle.plan_parts.specs.Fetched.{Fetched, Takes};
+ghost use Rattle.plan_parts.specs.MadeCalls.{ReadSo, TriedSo};
 ghost use Rattle.plan_parts.specs.TakenLocks.{IsTaking};
 ghost use Rattle.vol_layout.specs.Ranges.{HasResource, HasTable};
 
@@ -37,6 +38,7 @@ impl Taken {
         requires room { length self.old < 66 }
         requires taking { IsTaking world.old host self.old }
         ensures went { IfOk result (Takes host world.old world.new what self.old self.new) }
+        ensures so { IfOk result (TriedSo host world.old world.new what) }
         ensures cut { IfErr result (IsCut host world.old world.new) }
         ensures others { Others host world.old world.new }
     {
@@ -80,6 +82,7 @@ pub fn fetch<D: Device>(
     requires table { HasTable world.old.locks.geometry which }
     requires held { holds (host_at world.old.locks host) (owner which) ≡ true }
     ensures went { IfOk result (Fetched host world.old world.new which) }
+    ensures so { IfOk result (ReadSo host world.old world.new) }
     ensures cut { IfErr result (IsCut host world.old world.new) }
     ensures others { Others host world.old world.new }
 {

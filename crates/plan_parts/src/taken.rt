@@ -11,6 +11,7 @@ ghost use Rattle.host_facts.specs.Others.{Others};
 ghost use Rattle.lock_store.specs.Memories.{holds};
 ghost use Rattle.lock_store.specs.Views.{host_at};
 ghost use Rattle.plan_parts.specs.Cuts.{IsCut};
+ghost use Rattle.plan_parts.specs.MadeCalls.{FreedSo};
 ghost use Rattle.plan_parts.specs.TakenLocks.{Frees, IsTaking};
 ghost use Rattle.vol_layout.specs.Ranges.{HasResource};
 
@@ -93,6 +94,7 @@ impl Taken {
         requires empty { Knows world.old host (RecordIs []) }
         requires taking { IsTaking world.old host self.old }
         ensures went { IfOk result (Frees host world.old world.new self.old self.new) }
+        ensures so { IfOk result (FreedSo host world.old world.new self.old self.new) }
         ensures cut { IfErr result (IsCut host world.old world.new) }
         ensures others { Others host world.old world.new }
     {

@@ -8,8 +8,8 @@ use Rattle.host_runs.specs.Notes.{Notes}
 use Rattle.host_runs.specs.RunStates.{RunState}
 use Rattle.host_runs.specs.Runs.{AreIdle, BeginsPhase, Run, RunCall, Supplies, Turns}
 use Rattle.cluster.specs.Agreements.{Agree}
-use Rattle.cluster.specs.Runs.{IsIdle}
-use Rattle.cluster.specs.Views.{ClusterView, PartsView, state_of}
+use Rattle.cluster.specs.Runs.{IsIdle, IsStill}
+use Rattle.cluster.specs.Views.{ClusterView, PartsView, disk_of, state_of}
 use Rattle.cluster.specs.Waits.{has_line}
 
 -- where a schedule stands: the words that are left, and the host whose turn is next in a round
@@ -76,6 +76,18 @@ abbrev pub Made : PartsView → ℕ → PartsView → Type 0
 Made v h u =
     (notes : ℕ → Notes) → Agree v notes
     → (turn : Turn) × (later : ℕ → Notes) × IsMade v.workload h turn (state_of v notes) (state_of u later) × Agree u later
+
+-- a turn was refused memory, of which the device had no room left, and all that a run sees is as before
+pub record IsRefused (v u : PartsView) : Type 0 where
+  pub room : (disk_of v).room ≡ 0
+  pub still : IsStill v u
+
+-- some moves led from a place to a turn that was refused so
+pub record IsStopped (p : Place) (v u : PartsView) : Type 0 where
+  pub at : PartsView
+  pub end : Place
+  pub plays : Plays v p at end
+  pub refused : IsRefused at u
 
 -- a schedule of these words was played to its end
 pub record HasPlayed (words : List ℕ) (v u : PartsView) : Type 0 where

@@ -1,7 +1,7 @@
 // A schedule that is played on a cluster.
-ghost use Rattle.std.specs.Prelude.{◌≡◌, ◌<◌, ◌≤◌, ◌⊎◌, IfOk, OnOk, false, length};
-ghost use Rattle.cluster.specs.Runs.{IsIdle, SameStart};
-ghost use Rattle.schedule.specs.Plays.{HasPlayed, IsGone, Made, PlaysPhase, PlaysRound, PlaysRounds, PlaysWords};
+ghost use Rattle.std.specs.Prelude.{◌≡◌, ◌≤◌, IfOk, OnErr, OnOk, length, true, false};
+ghost use Rattle.cluster.specs.Runs.{Facts, IsIdle, SameStart};
+ghost use Rattle.schedule.specs.Plays.{HasPlayed, IsGone, IsRefused, IsStopped, PlaysPhase, PlaysRound, PlaysRounds, PlaysWords, at_word, in_round};
 
 use cluster::Cluster;
 use fingerprint::digest_of;
@@ -13,11 +13,14 @@ use vol_base::{HostNo, NoMemory, Turn};
 ///
 /// # Errors
 ///
-/// `NoMemory` where a turn was refused memory; the run ends there.
+/// `NoMemory` where the device had no room left for a turn; the run ends there, and later turns of the cluster are refused too.
 pub fn play<D: Device>(cluster: &mut Cluster<D>, words: &[HostNo]) -> Result<(), NoMemory>
     requires live { cluster.old.spent ≡ false }
     ensures same { SameStart cluster.old cluster.new }
     ensures played { OnOk result (HasPlayed words.now cluster.old.parts cluster.new.parts) }
+    ensures facts { OnOk result (Facts cluster.new) }
+    ensures stopped { OnErr result (IsStopped (record { words = words.now; next = 0 }) cluster.old.parts cluster.new.parts) }
+    ensures spent { OnErr result (cluster.new.spent ≡ true) }
 {
     let mut at = 0;
     loop {
@@ -38,6 +41,8 @@ fn by_phase<D: Device>(
     requires from { from ≤ length words.now }
     ensures same { SameStart cluster.old cluster.new }
     ensures played { IfOk result (PlaysPhase words.now from cluster.old cluster.new) }
+    ensures stopped { OnErr result (IsStopped (at_word words.now from) cluster.old.parts cluster.new.parts) }
+    ensures spent { OnErr result (cluster.new.spent ≡ true) }
 {
     let at = by_words(cluster, words, from)?;
     if at < words.len() {
@@ -57,6 +62,8 @@ fn by_words<D: Device>(
     requires from { from ≤ length words.now }
     ensures same { SameStart cluster.old cluster.new }
     ensures played { IfOk result (PlaysWords words.now from cluster.old cluster.new) }
+    ensures stopped { OnErr result (IsStopped (at_word words.now from) cluster.old.parts cluster.new.parts) }
+    ensures spent { OnErr result (cluster.new.spent ≡ true) }
 {
     let mut at = from;
     while at < words.len() && !cluster.idle() {
@@ -71,6 +78,8 @@ fn by_rounds<D: Device>(cluster: &mut Cluster<D>) -> Result<(), NoMemory>
     requires live { cluster.old.spent ≡ false }
     ensures same { SameStart cluster.old cluster.new }
     ensures played { OnOk result (PlaysRounds cluster.old cluster.new) }
+    ensures stopped { OnErr result (IsStopped (in_round 0) cluster.old.parts cluster.new.parts) }
+    ensures spent { OnErr result (cluster.new.spent ≡ true) }
 {
     while !cluster.idle() {
         round(cluster)?;
@@ -83,6 +92,8 @@ fn round<D: Device>(cluster: &mut Cluster<D>) -> Result<(), NoMemory>
     requires live { cluster.old.spent ≡ false }
     ensures same { SameStart cluster.old cluster.new }
     ensures played { OnOk result (PlaysRound cluster.old cluster.new) }
+    ensures stopped { OnErr result (IsStopped (in_round 0) cluster.old.parts cluster.new.parts) }
+    ensures spent { OnErr result (cluster.new.spent ≡ true) }
 {
     let hosts = cluster.hosts();
     for host in 0..hosts {
@@ -100,6 +111,8 @@ fn step<D: Device>(cluster: &mut Cluster<D>, host: HostNo) -> Result<(), NoMemor
     requires busy { IsIdle cluster.old.parts → ⊥ }
     ensures same { SameStart cluster.old cluster.new }
     ensures gone { OnOk result (IsGone host cluster.old cluster.new) }
+    ensures refused { OnErr result (IsRefused cluster.old.parts cluster.new.parts) }
+    ensures spent { OnErr result (cluster.new.spent ≡ true) }
 {
     if let Turn::Work(block) = cluster.turn(host)? {
         cluster.supply(host, digest_of(&block));

@@ -1,6 +1,6 @@
 // Runs of two hosts that need no device.
 mod host;
-mod meeting;
+pub mod meeting;
 mod pair;
 mod passes;
 

@@ -2,7 +2,6 @@ pub mod BlankLaws
 pub mod FormatSteps
 pub mod FoundLaws
 pub mod OpeningSteps
-mod SlotSteps
 pub mod SpanLaws
 pub mod StateLaws
 pub mod VisitSteps

@@ -3,5 +3,4 @@ pub mod Found
 pub mod Misfits
 pub mod Openings
 pub mod Refusals
-pub mod Slots
 pub mod laws

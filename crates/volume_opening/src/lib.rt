@@ -19,14 +19,11 @@
 //!   a blank or a formatted one; at `NoMemory` none is formatted (`IsStillBlank`), and at `Geometry`, `Faults` and `NoKeys` nothing
 //!   was written (`left`). `used`: a device that is not blank keeps its image and its record at every answer.
 //! - Keys (`left`, `visited`): after Ok, `Geometry` and `Faults` the own key is fenced; after `Failed` it may still be registered.
-//! - `open_idle` opens as `open` does, with the same clauses, and tells whether the volume that was found is idle. `slots`: where the
-//!   device tells its image, `None` comes exactly where no slot of the volume shows a key, and else `Some` is the place of the first one
-//!   that does; `place`: over any device it is the place of a slot of the volume. No further key is registered.
 //! - Laws for callers: a geometry fits a blank device that is long enough, and a volume of its own (`blank_fits`, `volume_fits`); each
 //!   image on the way has the files of the one handed in, and is blank or valid where that one is (`opening_keeps_files`,
 //!   `opening_keeps_valid`).
 //! - Only tested, by `volume_tests`: the order of the writes, the number of device calls (20 on a blank device of one table block a
-//!   file, 19 on its volume, and one a slot that `open_idle` reads there), and that no want of memory is answered with ample memory.
+//!   file, and 19 on its volume), and that no want of memory is answered with ample memory.
 #![tactic(auto)]
 
 mod block_zero;
@@ -34,8 +31,7 @@ mod format;
 mod misfit;
 mod open_no;
 mod opening;
-mod slots;
 mod volume;
 
 pub use open_no::OpenNo;
-pub use opening::{open, open_idle};
+pub use opening::open;

@@ -1,5 +1,5 @@
 // Opening a device for a workload.
-ghost use Rattle.std.specs.Prelude.{◌≡◌, ◌≢◌, ◌↔◌, ◌-◌, ◌^◌, ◌≤◌, Contains, IfErr, IfOk, IfSome, IsTrue, None, OnOk};
+ghost use Rattle.std.specs.Prelude.{◌≡◌, ◌≢◌, ◌↔◌, ◌≤◌, Contains, IfErr, IfSome, IsTrue, None, OnOk};
 ghost use Rattle.vol_base.specs.Faults.{Rose};
 ghost use Rattle.vol_layout.specs.Ranges.{IsGeometry};
 ghost use Rattle.vol_layout.specs.Regions.{total};
@@ -11,13 +11,11 @@ ghost use Rattle.volume_opening.specs.Misfits.{misfit_with};
 ghost use Rattle.shared_disk.specs.State.{with_told};
 ghost use Rattle.volume_opening.specs.Openings.{IsOnTheWay, IsOpened, IsVisited, WasBlank};
 ghost use Rattle.volume_opening.specs.Refusals.{IsLeft, IsRefused, KeepsContent};
-ghost use Rattle.volume_opening.specs.Slots.{IsSlotPlace, TellsSlots};
 
 use crate::block_zero::{Found, read_block_zero};
 use crate::format::format;
 use crate::misfit::find_misfit;
 use crate::open_no::OpenNo;
-use crate::slots::{Look, find_held};
 use crate::volume::{judge, list_faults};
 use shared_disk::Device;
 use std::alloc::Global;
@@ -43,68 +41,11 @@ pub fn open<D: Device>(alloc: Global, disk: &mut D, geometry: &Geometry) -> Resu
     ensures left { IfErr result (IsLeft (D.state disk.old) (D.state disk.new)) }
     ensures blocks { (D.state disk.new).blocks ≡ (D.state disk.old).blocks }
 {
-    match visit(alloc, disk, geometry, Look::Past) {
-        Ok(_) => Ok(()),
-        Err(refusal) => Err(refusal),
-    }
-}
-
-/// Opens a device as `open` does, and tells whether the volume on it is idle. Where the device was not
-/// blank, the slots are read under the same key in the order of their places, up to the first that is not
-/// free: `Some` is the place of that one, and `None` tells that all slots are free. A block that is no slot
-/// in range counts as a slot that is not free, and never stands where the device tells its image.
-pub fn open_idle<D: Device>(
-    alloc: Global,
-    disk: &mut D,
-    geometry: &Geometry,
-) -> Result<Option<u64>, OpenNo>
-    requires { IsGeometry geometry.now }
-    ensures opened { OnOk result (IsOpened geometry.now (D.state disk.old) (D.state disk.new)) }
-    ensures long { OnOk result (total geometry.now ≤ (D.state disk.old).blocks) }
-    ensures slots { IfOk result (λ held. IfSome (D.state disk.new).told (λ told. TellsSlots geometry.now told.image held)) }
-    ensures place { IfOk result (λ held. IfSome held (λ place. IsSlotPlace geometry.now place)) }
-    ensures refused { IfErr result (IsRefused geometry.now (D.state disk.old) (D.state disk.new)) }
-    ensures no_keys { (result ≡ Err OpenNo.NoKeys) ↔ ((D.state disk.old).counter ≡ last_counter) }
-    ensures failed { result ≡ Err OpenNo.Failed → Rose (D.faults disk.old) (D.faults disk.new) }
-    ensures later { D.faults disk.old ≤ D.faults disk.new }
-
-    ensures images { EachImage (IsOnTheWay geometry.now (D.state disk.old).told) (D.state disk.old).told (D.state disk.new).told }
-    ensures used { (WasBlank (D.state disk.old).told → ⊥) → (D.state disk.new).told ≡ (D.state disk.old).told }
-    ensures visited { OnOk result (IsVisited (D.state disk.old) (D.state disk.new)) }
-    ensures left { IfErr result (IsLeft (D.state disk.old) (D.state disk.new)) }
-    ensures blocks { (D.state disk.new).blocks ≡ (D.state disk.old).blocks }
-{
-    visit(alloc, disk, geometry, Look::AtSlots)
-}
-
-// Opens a device under a key of its own, and looks at the slots of a volume where that is asked for.
-fn visit<D: Device>(
-    alloc: Global,
-    disk: &mut D,
-    geometry: &Geometry,
-    look: Look,
-) -> Result<Option<u64>, OpenNo>
-    requires { IsGeometry geometry.now }
-    ensures opened { OnOk result (IsOpened geometry.now (D.state disk.old) (D.state disk.new)) }
-    ensures long { OnOk result (total geometry.now ≤ (D.state disk.old).blocks) }
-    ensures slots { look ≡ Look.AtSlots → IfOk result (λ held. IfSome (D.state disk.new).told (λ told. TellsSlots geometry.now told.image held)) }
-    ensures place { IfOk result (λ held. IfSome held (λ place. IsSlotPlace geometry.now place)) }
-    ensures refused { IfErr result (IsRefused geometry.now (D.state disk.old) (D.state disk.new)) }
-    ensures no_keys { (result ≡ Err OpenNo.NoKeys) ↔ ((D.state disk.old).counter ≡ last_counter) }
-    ensures failed { result ≡ Err OpenNo.Failed → Rose (D.faults disk.old) (D.faults disk.new) }
-    ensures later { D.faults disk.old ≤ D.faults disk.new }
-
-    ensures images { EachImage (IsOnTheWay geometry.now (D.state disk.old).told) (D.state disk.old).told (D.state disk.new).told }
-    ensures used { (WasBlank (D.state disk.old).told → ⊥) → (D.state disk.new).told ≡ (D.state disk.old).told }
-    ensures visited { OnOk result (IsVisited (D.state disk.old) (D.state disk.new)) }
-    ensures left { IfErr result (IsLeft (D.state disk.old) (D.state disk.new)) }
-    ensures blocks { (D.state disk.new).blocks ≡ (D.state disk.old).blocks }
-{
     let key = match disk.register(0) {
         Ok(key) => key,
         Err(refusal) => return Err(OpenNo::from(refusal)),
     };
-    let opened = open_under(alloc, disk, key, geometry, look);
+    let opened = open_under(alloc, disk, key, geometry);
     if is_failure(&opened) {
         return opened;
     }
@@ -114,7 +55,7 @@ fn visit<D: Device>(
     }
 }
 
-fn is_failure(opened: &Result<Option<u64>, OpenNo>) -> bool
+fn is_failure(opened: &Result<(), OpenNo>) -> bool
     ensures { IsTrue result ↔ (opened.now ≡ Err OpenNo.Failed) }
 {
     matches!(opened, Err(OpenNo::Failed))
@@ -126,14 +67,11 @@ fn open_under<D: Device>(
     disk: &mut D,
     key: Key,
     geometry: &Geometry,
-    look: Look,
-) -> Result<Option<u64>, OpenNo>
+) -> Result<(), OpenNo>
     requires key { Contains (D.state disk.old).keys key.0 }
     requires geometry { IsGeometry geometry.now }
     ensures opened { OnOk result (IsOpened geometry.now (D.state disk.old) (D.state disk.new)) }
     ensures long { OnOk result (total geometry.now ≤ (D.state disk.old).blocks) }
-    ensures slots { look ≡ Look.AtSlots → IfOk result (λ held. IfSome (D.state disk.new).told (λ told. TellsSlots geometry.now told.image held)) }
-    ensures place { IfOk result (λ held. IfSome held (λ place. IsSlotPlace geometry.now place)) }
     ensures refused { IfErr result (IsRefused geometry.now (D.state disk.old) (D.state disk.new)) }
     ensures kept { IfErr result (KeepsContent (D.state disk.old).told (D.state disk.new).told) }
     ensures no_keys { result ≢ Err OpenNo.NoKeys }
@@ -149,7 +87,7 @@ fn open_under<D: Device>(
     };
     match find_misfit(geometry, &block_zero, disk.blocks()) {
         Some((given, found)) => Err(OpenNo::Geometry { given, found }),
-        None => open_fitting(alloc, disk, key, geometry, &block_zero, look),
+        None => open_fitting(alloc, disk, key, geometry, &block_zero),
     }
 }
 
@@ -160,15 +98,12 @@ fn open_fitting<D: Device>(
     key: Key,
     geometry: &Geometry,
     block_zero: &Found,
-    look: Look,
-) -> Result<Option<u64>, OpenNo>
+) -> Result<(), OpenNo>
     requires key { Contains (D.state disk.old).keys key.0 }
     requires geometry { IsGeometry geometry.now }
     requires found { IfSome (D.state disk.old).told (λ told. IsFound (first_block told.image) block_zero.now) }
     requires fits { misfit_with geometry.now (D.state disk.old).blocks (found_geometry block_zero.now) ≡ None }
     ensures opened { OnOk result (IsOpened geometry.now (D.state disk.old) (D.state disk.new)) }
-    ensures slots { look ≡ Look.AtSlots → IfOk result (λ held. IfSome (D.state disk.new).told (λ told. TellsSlots geometry.now told.image held)) }
-    ensures place { IfOk result (λ held. IfSome held (λ place. IsSlotPlace geometry.now place)) }
     ensures refused { IfErr result (IsRefused geometry.now (D.state disk.old) (D.state disk.new)) }
     ensures kept { IfErr result (KeepsContent (D.state disk.old).told (D.state disk.new).told) }
     ensures no_keys { result ≢ Err OpenNo.NoKeys }
@@ -180,41 +115,11 @@ fn open_fitting<D: Device>(
 {
     match block_zero {
         Found::Blank => match format(disk, key, geometry) {
-            Ok(()) => Ok(None),
+            Ok(()) => Ok(()),
             Err(refusal) => Err(OpenNo::from(refusal)),
         },
-        Found::Volume(_) | Found::Other => open_used(alloc, disk, key, geometry, block_zero, look),
-    }
-}
-
-// The opening of a device that is not blank.
-fn open_used<D: Device>(
-    alloc: Global,
-    disk: &mut D,
-    key: Key,
-    geometry: &Geometry,
-    block_zero: &Found,
-    look: Look,
-) -> Result<Option<u64>, OpenNo>
-    requires key { Contains (D.state disk.old).keys key.0 }
-    requires geometry { IsGeometry geometry.now }
-    requires found { IfSome (D.state disk.old).told (λ told. IsFound (first_block told.image) block_zero.now) }
-    requires not_blank { block_zero.now ≢ Found.Blank }
-    requires fits { misfit_with geometry.now (D.state disk.old).blocks (found_geometry block_zero.now) ≡ None }
-    ensures opened { OnOk result (IsOpened geometry.now (D.state disk.old) (D.state disk.new)) }
-    ensures slots { look ≡ Look.AtSlots → IfOk result (λ held. IfSome (D.state disk.new).told (λ told. TellsSlots geometry.now told.image held)) }
-    ensures place { IfOk result (λ held. IfSome held (λ place. IsSlotPlace geometry.now place)) }
-    ensures refused { IfErr result (IsRefused geometry.now (D.state disk.old) (D.state disk.new)) }
-    ensures same { D.state disk.new ≡ D.state disk.old }
-    ensures no_keys { result ≢ Err OpenNo.NoKeys }
-    ensures failed { result ≡ Err OpenNo.Failed → Rose (D.faults disk.old) (D.faults disk.new) }
-    ensures later { D.faults disk.old ≤ D.faults disk.new }
-{
-    match judge(list_faults(alloc, disk, key, geometry, block_zero)) {
-        Ok(()) => match find_held(disk, key, geometry, look) {
-            Ok(held) => Ok(held),
-            Err(_) => Err(OpenNo::Failed),
-        },
-        Err(refusal) => Err(refusal),
+        Found::Volume(_) | Found::Other => {
+            judge(list_faults(alloc, disk, key, geometry, block_zero))
+        }
     }
 }

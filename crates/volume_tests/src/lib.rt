@@ -1,4 +1,4 @@
-//! Tests of the check of a volume, of its opening, of its tables and of records made in them: what no clause
+//! Tests of the check of a volume, of its opening, and of records made in its tables: what no clause
 //! says, and volumes that are built by hand. They stand in one crate, so that the crates below are proved once.
 #![tactic(auto)]
 
@@ -8,7 +8,5 @@ mod faults;
 mod openings;
 #[cfg(test)]
 mod records;
-#[cfg(test)]
-mod tables;
 #[cfg(test)]
 mod volumes;

@@ -1,13 +1,12 @@
 // Blank devices, volumes, and devices on which no volume is opened.
 use crate::volumes::{formatted, geometry_of};
 use shared_disk::{Device, MemDisk};
-use slot_lock_blocks::{Slot, write_slot};
 use std::alloc::Global;
 use std::process::Abort;
 use std::test::Fail;
-use vol_base::{Block, Key, NoMemory};
+use vol_base::{Block, NoMemory};
 use volume_faults::{Fault, FaultKind};
-use volume_opening::{OpenNo, open, open_idle};
+use volume_opening::{OpenNo, open};
 
 // Slots 1 and 2, journals 3 and 4, locks 5 to 10, file tables 11 to 14, the group's table 15, the part's
 // 16, and 1,035 blocks in all.
@@ -79,6 +78,7 @@ fn devices_that_are_opened(rt: HostRuntime) -> Result<(), Fail> {
         assert!(rt; disk.writes().iter().map(|write| &write.0).eq(order));
         // A volume is used as it stands.
         expect_opened(&rt, alloc, &mut disk, numbers, 2);
+        assert!(rt; disk.calls().saturating_sub(calls) == 19 + further.len() as u64);
         assert!(rt; disk.writes().len() == 17 + further.len());
     }
     // A device whose third call failed is formatted by the next job.
@@ -155,55 +155,6 @@ fn devices_that_are_refused(rt: HostRuntime) -> Result<(), Fail> {
         let mut disk = MemDisk::of_image(alloc, formatted(alloc, FOUR_SHARDS, 0)?, 0)?;
         disk.fail_at(call)?;
         expect_refused(&rt, alloc, &mut disk, FOUR_SHARDS, OpenNo::Failed);
-        assert!(rt; disk.calls() == call);
-    }
-    Ok(())
-}
-
-// A formatted volume on a device whose counter is 2. The host of this number holds its slot, if there is
-// one.
-fn held_by(alloc: Global, host: Option<u8>) -> Result<MemDisk, NoMemory> {
-    let mut blocks = formatted(alloc, FOUR_SHARDS, 0)?;
-    if let Some(host) = host {
-        let place = 1 + usize::from(host);
-        if place < blocks.len() {
-            let key = Key(32 + u64::from(host));
-            blocks[place] = write_slot(&Slot::Live { key, beat: 7 });
-        }
-    }
-    MemDisk::of_image(alloc, blocks, 2)
-}
-
-#[test]
-fn slots_that_are_told(rt: HostRuntime) -> Result<(), Fail> {
-    let alloc = rt.alloc();
-    let geometry = geometry_of(FOUR_SHARDS);
-    assert!(rt; geometry.is_in_range());
-    // Slots are read up to the first that is not free.
-    let cases: [(Option<u8>, Option<u64>, u64); 3] = [
-        (None, None, 21),
-        (Some(1), Some(2), 21),
-        (Some(0), Some(1), 20),
-    ];
-    for (host, place, calls) in cases {
-        let mut disk = held_by(alloc, host)?;
-        assert!(rt; open_idle(alloc, &mut disk, &geometry) == Ok(place));
-        assert!(rt; disk.calls() == calls);
-        assert!(rt; disk.counter() == 3);
-        assert!(rt; disk.writes().is_empty());
-        // Whoever does not ask reads none.
-        assert!(rt; open(alloc, &mut disk, &geometry) == Ok(()));
-        assert!(rt; disk.calls() == calls + 19);
-    }
-    // Of a device that was blank no slot is read.
-    let mut disk = MemDisk::new(alloc, 1035)?;
-    assert!(rt; open_idle(alloc, &mut disk, &geometry) == Ok(None));
-    assert!(rt; disk.calls() == 20);
-    // Each call fails in turn.
-    for call in 1..22 {
-        let mut disk = held_by(alloc, None)?;
-        disk.fail_at(call)?;
-        assert!(rt; open_idle(alloc, &mut disk, &geometry) == Err(OpenNo::Failed));
         assert!(rt; disk.calls() == call);
     }
     Ok(())

@@ -6,7 +6,7 @@ use Rattle.std.proofs.lemmas.Bool.{cases_eq}
 use Rattle.std.proofs.lemmas.List.{length-append, length-replicate, replicate-append-replicate}
 use Rattle.vol_base.specs.declared.answer.Answer.{Answer}
 use Rattle.vol_base.specs.declared.command.Command.{Command}
-use Rattle.workload.specs.Workloads.{IsNumbered, IsWorkload}
+use Rattle.workload.specs.Workloads.{IsWorkload}
 use Rattle.workload.specs.Entries.{most_commands}
 use Rattle.workload.specs.declared.line.Line.{Line}
 use Rattle.workload.specs.declared.line.Workload.{Workload}
@@ -16,8 +16,7 @@ use Rattle.lock_store.specs.Views.{LocksView, host_at}
 use Rattle.shared_disk.specs.Seen.{DiskSeen}
 use Rattle.image_view.specs.Valid.{IsValid}
 use Rattle.histories.specs.Joined.{death_after, of_answers, standing_death}
-use Rattle.histories.specs.Lines.{IsLine}
-use Rattle.histories.specs.Phases.{ArePhased}
+use Rattle.histories.specs.laws.PhaseLaws.{phase-workload, phased-workload}
 use Rattle.host_notes.specs.laws.KeyMemories.{remembered_start}
 use Rattle.host_runs.specs.DeviceCalls.{OnImage}
 use Rattle.host_runs.specs.Notes.{no_notes}
@@ -36,30 +35,6 @@ use Rattle.cluster.specs.declared.starting.Room.{Room}
 use Rattle.cluster.specs.laws.BudgetLaws.{budget_begins}
 use Rattle.cluster.specs.laws.MeasureLaws.{measured_by}
 use Rattle.cluster.specs.laws.OpenLaws.{open_begun}
-
--- the lines of a text stand in the order of their phases, and there is a phase
-later_phase : (at phase : ℕ) (lines : List Line) (phases : ℕ) → IsNumbered at phase lines phases → (k : ℕ) (line : Line)
-    → IsLine lines k line → phase ≤ line.phase
-later_phase at phase [] phases numbered k line is = absurd cc
-later_phase at phase (first ∷ lines) phases numbered zero line is =
-    let same : first ≡ line = cc in let le = numbered.0 in let e = ap (λ (l : Line). l.phase) same in omega (arith, le, e)
-later_phase at phase (first ∷ lines) phases numbered (suc k) line is =
-    let le = numbered.0 in let rest = later_phase (first.at + 1) first.phase lines phases numbered.2 k line is in omega (arith, le, rest)
-
-pub numbered_phased : (at phase : ℕ) (lines : List Line) (phases : ℕ) → IsNumbered at phase lines phases → ArePhased lines
-numbered_phased at phase [] phases numbered j k l m lt is_j is_k = absurd cc
-numbered_phased at phase (first ∷ lines) phases numbered j zero l m lt is_j is_k = absurd (omega (arith, lt))
-numbered_phased at phase (first ∷ lines) phases numbered zero (suc k) l m lt is_j is_k =
-    let same : first ≡ l = cc in
-    let le = later_phase (first.at + 1) first.phase lines phases numbered.2 k m is_k in
-    let e = ap (λ (x : Line). x.phase) same in omega (arith, le, e)
-numbered_phased at phase (first ∷ lines) phases numbered (suc j) (suc k) l m lt is_j is_k =
-    numbered_phased (first.at + 1) first.phase lines phases numbered.2 j k l m (omega (arith, lt)) is_j is_k
-
-some_phase : (at phase : ℕ) (lines : List Line) (phases : ℕ) → IsNumbered at phase lines phases → phase < phases
-some_phase at phase [] phases numbered = numbered
-some_phase at phase (first ∷ lines) phases numbered =
-    let le = numbered.0 in let rest = some_phase (first.at + 1) first.phase lines phases numbered.2 in omega (arith, le, rest)
 
 -- nothing is answered
 none_given : (n : ℕ) → 0 ≡ 0 + given_in (replicate n None)
@@ -124,12 +99,12 @@ module _ (device : DiskSeen) (w : Workload) (room : Room) (is : IsWorkload w) (k
 
   pub first_sound : IsSound v
   first_sound = record {
-    phased = numbered_phased 2 0 w.lines w.phases is.numbered;
+    phased = phased-workload w is;
     allowed = is.lines;
     known = known;
     few = few_lines w.lines is.few;
     phases = phases;
-    phase = some_phase 2 0 w.lines w.phases is.numbered;
+    phase = phase-workload w is;
     geometry = refl;
     volume = is.geometry;
     long = long_now;

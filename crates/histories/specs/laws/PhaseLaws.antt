@@ -1,71 +1,54 @@
--- The lines of a text stand by phase.
-use Rattle.std.proofs.Common.{◌≡◌, ◌<◌, ◌≤◌, ◌+◌, ℕ, Bool, true, false, zero, suc, List, [], ◌∷◌, Option, Some, Result, Ok, Err, ap, subst, length, arith}
-use Rattle.std.specs.Prelude.{if◌then◌else◌, nat_le}
+-- The lines of a workload stand by phase.
+use Rattle.std.proofs.Common.{◌≡◌, ◌<◌, ◌≤◌, ◌+◌, ℕ, zero, suc, List, [], ◌∷◌, Option, Some, ap, arith}
 use Rattle.std.specs.Option.{option_map_or}
-use Rattle.workload.specs.declared.cause.WorkloadNo.TheVariants.{Long}
-use Rattle.workload.specs.declared.entry.Entry.{Entry}
-use Rattle.workload.specs.declared.entry.Entry.TheVariants.{Barrier, Order}
 use Rattle.workload.specs.declared.line.Line.{Line}
 use Rattle.workload.specs.declared.line.Workload.{Workload}
-use Rattle.workload.specs.Checks.{◌>>=◌}
-use Rattle.workload.specs.Grammar.{Refusal, at_line, entries_of, most_bytes, numbered, workload_behind, workload_of, workload_of_lines, workload_with}
-use Rattle.workload.specs.Texts.{lines_of}
-use Rattle.workload.specs.VolumeLine.{volume_line}
+use Rattle.workload.specs.Workloads.{IsNumbered, IsWorkload}
 use Rattle.histories.specs.Lines.{IsLine}
-use Rattle.histories.specs.Phases.{ArePhased}
+use Rattle.histories.specs.Phases.{ArePhased, AreWithin}
 
 first_phase : (line l : Line) → Some line ≡ Some l → line.phase ≡ l.phase
 first_phase line l is = ap (λ (o : Option Line). option_map_or (λ (m : Line). m.phase) o 0) is
 
--- no line has a phase before the one that its list begins with
-later_phase : (at phase : ℕ) (entries : List Entry) (k : ℕ) (l : Line) → IsLine (numbered at phase entries) k l → phase ≤ l.phase
-unfolding numbered
-later_phase at phase [] k l is = absurd cc
-later_phase at phase (Barrier ∷ entries) k l is = let later = later_phase (at + 1) (phase + 1) entries k l is in omega (arith, later)
-later_phase at phase (Order host command ∷ entries) zero l is =
-    let first : Line = record { at = at; phase = phase; host = host; command = command } in
-    let same = first_phase first l is in
-    omega (arith, same)
-later_phase at phase (Order host command ∷ entries) (suc k) l is = later_phase (at + 1) phase entries k l is
+-- lines that are numbered from a phase on, of so many phases
+below_last : (at phase : ℕ) (lines : List Line) (phases : ℕ) → IsNumbered at phase lines phases → phase < phases
+below_last at phase [] phases is = is
+below_last at phase (line ∷ lines) phases is =
+    let later = below_last (line.at + 1) line.phase lines phases is.2 in
+    let from = is.0 in
+    omega (arith, from, later)
 
-phased_behind : (at phase : ℕ) (entries : List Entry) (j k : ℕ) (l m : Line) → j < k → IsLine (numbered at phase entries) j l
-    → IsLine (numbered at phase entries) k m → l.phase ≤ m.phase
-unfolding numbered
-phased_behind at phase [] j k l m lt at_j at_k = absurd cc
-phased_behind at phase (Barrier ∷ entries) j k l m lt at_j at_k = phased_behind (at + 1) (phase + 1) entries j k l m lt at_j at_k
-phased_behind at phase (Order host command ∷ entries) zero zero l m lt at_j at_k = absurd (omega (arith, lt))
-phased_behind at phase (Order host command ∷ entries) (suc j) zero l m lt at_j at_k = absurd (omega (arith, lt))
-phased_behind at phase (Order host command ∷ entries) zero (suc k) l m lt at_j at_k =
-    let first : Line = record { at = at; phase = phase; host = host; command = command } in
-    let same = first_phase first l at_j in
-    let later = later_phase (at + 1) phase entries k m at_k in
-    omega (arith, same, later)
-phased_behind at phase (Order host command ∷ entries) (suc j) (suc k) l m lt at_j at_k = phased_behind (at + 1) phase entries j k l m (omega (arith, lt)) at_j at_k
+between : (at phase : ℕ) (lines : List Line) (phases k : ℕ) (l : Line) → IsNumbered at phase lines phases → IsLine lines k l
+    → (phase ≤ l.phase) × (l.phase < phases)
+between at phase [] phases k l is here = absurd cc
+between at phase (line ∷ lines) phases zero l is here =
+    let same = first_phase line l here in
+    let from = is.0 in
+    let later = below_last (line.at + 1) line.phase lines phases is.2 in
+    (omega (arith, same, from), omega (arith, same, later))
+between at phase (line ∷ lines) phases (suc k) l is here =
+    let from = is.0 in
+    let later = between (line.at + 1) line.phase lines phases k l is.2 here in
+    (omega (arith, from, later.0), later.1)
 
-of_both : {A : Type 0} (r : Result A Refusal) (rest : A → Result Workload Refusal) (w : Workload)
-    → ((value : A) → rest value ≡ Ok w → ArePhased w.lines) → (r >>= rest) ≡ Ok w → ArePhased w.lines
-of_both (Ok value) rest w each is = each value is
-of_both (Err refusal) rest w each is = absurd cc
+in_order : (at phase : ℕ) (lines : List Line) (phases j k : ℕ) (l m : Line) → IsNumbered at phase lines phases → j < k → IsLine lines j l
+    → IsLine lines k m → l.phase ≤ m.phase
+in_order at phase [] phases j k l m is lt at_j at_k = absurd cc
+in_order at phase (line ∷ lines) phases zero zero l m is lt at_j at_k = absurd (omega (arith, lt))
+in_order at phase (line ∷ lines) phases (suc j) zero l m is lt at_j at_k = absurd (omega (arith, lt))
+in_order at phase (line ∷ lines) phases zero (suc k) l m is lt at_j at_k =
+    let same = first_phase line l at_j in
+    let later = between (line.at + 1) line.phase lines phases k m is.2 at_k in
+    omega (arith, same, later.0)
+in_order at phase (line ∷ lines) phases (suc j) (suc k) l m is lt at_j at_k =
+    in_order (line.at + 1) line.phase lines phases j k l m is.2 (omega (arith, lt)) at_j at_k
 
-of_lines : (lines : List (List ℕ)) (w : Workload) → workload_of_lines lines ≡ Ok w → ArePhased w.lines
-unfolding workload_of_lines workload_behind
-of_lines [] w is = absurd cc
-of_lines (first ∷ lines) w is =
-    of_both (at_line 1 (volume_line first)) (λ g. workload_behind g lines) w
-    (λ g behind.
-    of_both (entries_of g 2 0 lines) (λ entries. Ok (workload_with g entries)) w
-    (λ entries last.
-    let e : workload_with g entries ≡ w = cc in
-    subst (λ (v : Workload). ArePhased v.lines) e (phased_behind 2 0 entries))
-    behind)
-    is
+-- those of a workload, and each is of one of its phases; there is one
+pub phased-workload : (w : Workload) → IsWorkload w → ArePhased w.lines
+phased-workload w is j k l m lt at_j at_k = in_order 2 0 w.lines w.phases j k l m is.numbered lt at_j at_k
 
-of_text : (short : Bool) (lines : List (List ℕ)) (w : Workload) → (if short then workload_of_lines lines else Err (0, Long)) ≡ Ok w
-    → ArePhased w.lines
-of_text true lines w is = of_lines lines w is
-of_text false lines w is = absurd cc
+pub within-workload : (w : Workload) → IsWorkload w → AreWithin w.phases w.lines
+within-workload w is p line at = (between 2 0 w.lines w.phases p line is.numbered at).1
 
--- those of a parsed text
-pub phased-text : (text : List ℕ) (w : Workload) → workload_of text ≡ Ok w → ArePhased w.lines
-unfolding workload_of
-phased-text text w is = of_text (nat_le (length text) most_bytes) (lines_of text) w is
+pub phase-workload : (w : Workload) → IsWorkload w → 0 < w.phases
+phase-workload w is = below_last 2 0 w.lines w.phases is.numbered

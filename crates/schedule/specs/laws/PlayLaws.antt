@@ -1,8 +1,8 @@
 -- A schedule that is played move by move.
-use Rattle.std.proofs.Common.{◌≡◌, ◌-◌, ◌≢◌, ◌<◌, ◌⊎◌, ◌++◌, ◌∷◌, ℕ, Bool, true, false, List, [], Option, Some, None, drop, get_or, length, inl, inr, ◌+◌, ◌==◌, ◌≤◌, refl, ap, sym, subst, ◌∙◌, arith}
+use Rattle.std.proofs.Common.{◌≡◌, ◌-◌, ◌≢◌, ◌<◌, ◌⊎◌, ◌++◌, ◌∷◌, ℕ, Bool, true, false, List, [], Option, Some, None, Result, Ok, Err, drop, get_or, length, inl, inr, ◌+◌, ◌==◌, ◌≤◌, refl, ap, sym, subst, ◌∙◌, arith}
 use Rattle.std.proofs.lemmas.List.{drop_all, drop_more}
 use Rattle.std.proofs.lemmas.Bool.{cases_eq, cases_lt, eq-eqb, ne_eqb}
-use Rattle.std.specs.Prelude.{IfSome, if◌then◌else◌}
+use Rattle.std.specs.Prelude.{IfSome, IsOk, if◌then◌else◌}
 use Rattle.vol_base.specs.Turned.{Lowers, Stays}
 use Rattle.vol_base.specs.declared.answer.Turn.{Turn}
 use Rattle.vol_base.specs.declared.answer.Turn.TheVariants.{Answered, Idle, Moved, Work}
@@ -11,14 +11,26 @@ use Rattle.workload.specs.declared.line.Workload.{Workload}
 use Rattle.fingerprint.specs.DigestOf.{digest_of}
 use Rattle.host_runs.specs.Awaited.{awaited}
 use Rattle.host_runs.specs.RunStates.{RunState}
-use Rattle.host_runs.specs.Runs.{AreIdle, IsTurn, NextPhase, supplied}
+use Rattle.host_runs.specs.Runs.{AreIdle, IsTurn, NextPhase, Run, RunCall, supplied}
+use Rattle.host_runs.specs.laws.RunLaws.{run-joined}
 use Rattle.cluster.specs.Agreements.{Supplied, Turned}
 use Rattle.cluster.specs.Parts.{asked_of}
-use Rattle.cluster.specs.Runs.{Goes, IsIdle, SameStart}
-use Rattle.cluster.specs.Views.{ClusterView, PartsView, state_of}
+use Rattle.cluster.specs.Runs.{Goes, IsIdle, IsStill, SameStart}
+use Rattle.cluster.specs.Views.{ClusterView, PartsView, disk_of, state_of}
 use Rattle.cluster.specs.Waits.{Tells, has_line, waited_for}
 use Rattle.cluster.specs.laws.MeasureLaws.{none_is}
-use Rattle.schedule.specs.Plays.{Begins, IsGone, HasPlayed, PlaysPhase, PlaysRound, PlaysRounds, PlaysRoundsTo, PlaysUpTo, PlaysUpToWord, PlaysWords, at_word, in_round, wrapped, IsMade, IsMove, IsPlayed, Made, Makes, Move, Place, Plays, named, place_behind, turned}
+use Rattle.schedule.specs.Plays.{Begins, IsGone, IsRefused, IsStopped, HasPlayed, PlaysPhase, PlaysRound, PlaysRounds, PlaysRoundsTo, PlaysUpTo, PlaysUpToWord, PlaysWords, at_word, calls_by, in_round, wrapped, IsMade, IsMove, IsPlayed, Made, Makes, Move, Place, Plays, named, place_behind, turned}
+
+-- the moves are those of a run
+pub played-run : (w : Workload) (p : Place) (s : RunState) (moves : List Move) (q : Place) (t : RunState) → IsPlayed w p s moves q t
+    → (calls : List RunCall) × Run w s calls t
+played-run w p s [] q t played = ([], played.1)
+played-run w p s (Begins ∷ moves) q t (middle, begins, rest) =
+    let (calls, run) = played-run w (place_behind w.geometry.hosts p Begins) middle moves q t rest in
+    (NextPhase ∷ calls, (middle, begins, run))
+played-run w p s (Makes h turn ∷ moves) q t (middle, made, rest) =
+    let (calls, run) = played-run w (place_behind w.geometry.hosts p (Makes h turn)) middle moves q t rest in
+    (calls_by h turn ++ calls, run-joined w s (calls_by h turn) middle calls t made.1.run run)
 
 -- one move more
 played_more : (w : Workload) (p : Place) (s : RunState) (moves : List Move) (q : Place) (m : RunState) (move : Move) (t : RunState)
@@ -331,3 +343,48 @@ phases_less u x y start same begun more =
     let phases = ap (λ (p : PartsView). p.workload.phases) begun in
     let phase = ap (λ (p : PartsView). p.phase) begun in
     omega (arith, same, all, phases, phase, more)
+
+-- a schedule that is stopped
+no_room : {T E : Type 0} (room : ℕ) (result : Result T E) (refusal : E) → result ≡ Err refusal → (0 < room → IsOk result) → room ≡ 0
+no_room room (Ok x) refusal is has = absurd cc
+no_room room (Err other) refusal is has =
+    elim (cases_lt 0 room) [
+      | inl some ↦ let both = has some in absurd cc
+      | inr none ↦ omega (arith, none)
+    ]
+
+pub refused_turn : {T E : Type 0} (v u : ClusterView) (result : Result T E) (refusal : E) → result ≡ Err refusal → v.spent ≡ false
+    → (0 < (disk_of v.parts).room → v.spent ≡ false → IsOk result) → IsStill v.parts u.parts → IsRefused v.parts u.parts
+refused_turn v u result refusal is live has still = record {
+  room = no_room (disk_of v.parts).room result refusal is (λ some. has some live);
+  still = still;
+}
+
+module _ (v : PartsView) (p : Place) (u : PartsView) (q : Place) (x : PartsView) (plays : Plays v p u q) where
+  pub stopped_here : IsRefused u x → IsStopped p v x
+  stopped_here refused = record { at = u; end = q; plays = plays; refused = refused }
+
+  pub stopped_later : u.workload ≡ v.workload → IsStopped q u x → IsStopped p v x
+  stopped_later same stopped = record {
+    at = stopped.at;
+    end = stopped.end;
+    plays = plays_joined v p u q stopped.at stopped.end same plays stopped.plays;
+    refused = stopped.refused;
+  }
+
+pub stopped_round : (v u x : ClusterView) → SameStart v u → PlaysRoundsTo v u → (IsIdle u.parts → ⊥) → IsStopped (in_round 0) u.parts x.parts
+    → IsStopped (in_round 0) v.parts x.parts
+stopped_round v u x start to busy stopped =
+    elim to.ends [
+      | inl first ↦
+          stopped_later v.parts (in_round 0) u.parts (in_round 0) x.parts
+          (subst (λ (next : ℕ). Plays v.parts (in_round 0) u.parts (in_round next)) first to.plays) start.workload stopped
+      | inr idle ↦ absurd (busy idle)
+    ]
+
+pub stopped_rounds : (words : List ℕ) (from at : ℕ) (v u x : ClusterView) → length words ≤ at → SameStart v u → PlaysWords words from v u at
+    → IsStopped (in_round 0) u.parts x.parts → IsStopped (at_word words from) v.parts x.parts
+stopped_rounds words from at v u x past start played stopped =
+    stopped_later v.parts (at_word words from) u.parts (in_round 0) x.parts
+    (subst (λ (ws : List ℕ). Plays v.parts (at_word words from) u.parts (record { words = ws; next = 0 })) (drop_all at words past) played.up_to.plays)
+    start.workload stopped

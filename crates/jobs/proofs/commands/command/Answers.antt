@@ -1,26 +1,36 @@
 use Rattle.std.proofs.Common.{Some, None, ap, map, refl, string_bytes, sym, ◌∙◌}
-use Rattle.jobs.specs.declared.words.Job.TheVariants.{Sim, Check}
-use Rattle.jobs.specs.Words.{job_of}
+use Rattle.jobs.specs.declared.words.Job.TheVariants.{Sim, Run, Check}
+use Rattle.jobs.specs.Words.{hosts_of, job_of}
 use Rattle.jobs.proofs.CommandLaws.{command_ends, usage_ends}
 use Rattle.jobs.proofs.commands.command.Goals as goal
 
 pub returns-in-Some-Sim : goal.returns-in-Some-Sim
 returns-in-Some-Sim g c = record {
-  ends = command_ends (job_of (map string_bytes c.args.words.now)) (Some Sim) _ _ _
-      (sym c.job_of.ensures ∙ c.in-Some-Sim.is ∙ ap Some c.in-Some-Sim.field-0-is)
+  ends =
+      let words = map string_bytes c.args.words.now in
+      command_ends (job_of words) (Some Sim) (hosts_of words) _ _ _ (sym c.job_of.ensures ∙ c.in-Some-Sim.is ∙ ap Some c.in-Some-Sim.field-0-is)
       c.sim.ensures.ends;
 }
 
 pub returns-in-Some-Check : goal.returns-in-Some-Check
 returns-in-Some-Check g c = record {
-  ends = command_ends (job_of (map string_bytes c.args.words.now)) (Some Check) _ _ _
-      (sym c.job_of.ensures ∙ c.in-Some-Check.is ∙ ap Some c.in-Some-Check.field-0-is)
+  ends =
+      let words = map string_bytes c.args.words.now in
+      command_ends (job_of words) (Some Check) (hosts_of words) _ _ _ (sym c.job_of.ensures ∙ c.in-Some-Check.is ∙ ap Some c.in-Some-Check.field-0-is)
       (record { source = refl; check = c.check.ensures.ends });
+}
+
+pub returns-in-Some-Run : goal.returns-in-Some-Run
+returns-in-Some-Run g c = record {
+  ends =
+      let words = map string_bytes c.args.words.now in
+      command_ends (job_of words) (Some Run) (hosts_of words) _ _ _ (sym c.job_of.ensures ∙ c.in-Some-Run.is ∙ ap Some c.in-Some-Run.field-0-is)
+      (usage_ends _ _ _ refl refl c.tell.ensures);
 }
 
 pub returns-in-None : goal.returns-in-None
 returns-in-None g c = record {
-  ends = command_ends (job_of (map string_bytes c.args.words.now)) None _ _ _
-      (sym c.job_of.ensures ∙ c.in-None.is)
-      (usage_ends _ _ _ refl refl c.tell.ensures);
+  ends =
+      let words = map string_bytes c.args.words.now in
+      command_ends (job_of words) None (hosts_of words) _ _ _ (sym c.job_of.ensures ∙ c.in-None.is) (usage_ends _ _ _ refl refl c.tell-in-None.ensures);
 }

@@ -3,7 +3,7 @@ use Rattle.jobs.proofs.simulating.sim.Goals as goal
 
 pub returns : goal.returns
 returns g c = record {
-  ends = sim_ends _ _ _
-      (record { outcome = c.decide-outcome.result; decided = c.decide-outcome.ensures.decided; told = c.tell-status.ensures })
+  ends = sim_ends _ _ _ _
+      (record { outcome = c.decide-outcome.result.0; decided = c.decide-outcome.ensures.decided; told = c.tell-status.ensures })
       c.decide-outcome.ensures.blocks c.decide-outcome.ensures.taken;
 }

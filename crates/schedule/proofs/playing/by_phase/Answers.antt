@@ -1,4 +1,5 @@
-use Rattle.schedule.specs.laws.PlayLaws.{phase_rounds, phase_words, same_both}
+use Rattle.vol_base.specs.laws.ResultLaws.{on_err_of}
+use Rattle.schedule.specs.laws.PlayLaws.{phase_rounds, phase_words, same_both, stopped_rounds}
 use Rattle.schedule.proofs.playing.by_phase.Goals as goal
 
 pub by_rounds-requires : goal.by_rounds-requires
@@ -15,3 +16,9 @@ pub returns-clause-played : goal.returns-clause-played
 returns-clause-played g c =
     phase_rounds c.args.words.now c.args.from c.in_ok-at.at c.args.cluster.now c.by_words.new.cluster c.by_rounds.new.cluster c.if-at-words.false
     c.in_ok-at.ensures.same c.in_ok-at.ensures.played c.in_ok-by_rounds.ensures.played
+
+pub returns-in_err-by_rounds-clause-stopped : goal.returns-in_err-by_rounds-clause-stopped
+returns-in_err-by_rounds-clause-stopped g c =
+    on_err_of c.from_residual-in_err-by_rounds.result
+    (stopped_rounds c.args.words.now c.args.from c.in_ok-at.at c.args.cluster.now c.by_words.new.cluster c.by_rounds.new.cluster c.if-at-words.false
+    c.in_ok-at.ensures.same c.in_ok-at.ensures.played c.in_err-by_rounds.ensures.stopped)

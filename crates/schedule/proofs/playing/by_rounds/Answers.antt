@@ -1,5 +1,6 @@
 use Rattle.std.proofs.Common.{◌≡◌, true, false, refl, sym, ◌∙◌}
-use Rattle.schedule.specs.laws.PlayLaws.{rounds_first, rounds_more, same_both}
+use Rattle.vol_base.specs.laws.ResultLaws.{on_err_of}
+use Rattle.schedule.specs.laws.PlayLaws.{rounds_first, rounds_more, same_both, stopped_round}
 use Rattle.schedule.proofs.playing.by_rounds.Goals as goal
 
 pub loop-cluster-init : goal.loop-cluster-init
@@ -25,3 +26,9 @@ loop-cluster-preserved g c =
 
 pub returns-clause-played : goal.returns-clause-played
 returns-clause-played g c = record { to = c.loop-cluster.invariant.plays; idle = c.idle.ensures.0 c.loop-cluster-test.false }
+
+pub returns-in_err-round-clause-stopped : goal.returns-in_err-round-clause-stopped
+returns-in_err-round-clause-stopped g c =
+    on_err_of c.from_residual.result
+    (stopped_round c.args.cluster.now c.loop-cluster.cluster c.round.new.cluster c.loop-cluster.invariant.same c.loop-cluster.invariant.plays
+    (λ idle. let both : true ≡ false = sym (c.idle.ensures.1 idle) ∙ c.loop-cluster-test.true in absurd cc) c.in_err-round.ensures.stopped)

@@ -1,5 +1,7 @@
 use Rattle.std.proofs.Common.{◌≡◌, true, false, refl, sym, ◌∙◌, arith}
-use Rattle.schedule.specs.laws.PlayLaws.{same_both, words_first, words_more}
+use Rattle.vol_base.specs.laws.ResultLaws.{on_err_of}
+use Rattle.schedule.specs.Plays.{at_word}
+use Rattle.schedule.specs.laws.PlayLaws.{same_both, stopped_here, words_first, words_more}
 use Rattle.schedule.proofs.playing.by_words.Goals as goal
 
 pub loop-at-init : goal.loop-at-init
@@ -42,3 +44,9 @@ returns-after-loop-at-clause-played g c =
       ends = λ below. absurd (omega (arith, below, past));
       phase = c.loop-at.invariant.phase;
     }
+
+pub returns-in_err-step-clause-stopped : goal.returns-in_err-step-clause-stopped
+returns-in_err-step-clause-stopped g c =
+    on_err_of c.from_residual.result
+    (stopped_here c.args.cluster.now.parts (at_word c.args.words.now c.args.from) c.loop-at.cluster.parts (at_word c.args.words.now c.loop-at.at)
+    c.step.new.cluster.parts c.loop-at.invariant.plays.plays c.in_err-step.ensures.refused)

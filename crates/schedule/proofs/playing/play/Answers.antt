@@ -1,7 +1,8 @@
 use Rattle.std.proofs.Common.{refl, sym, subst, ◌∙◌, arith}
 use Rattle.cluster.specs.Views.{ClusterView}
-use Rattle.schedule.specs.Plays.{HasPlayed}
-use Rattle.schedule.specs.laws.PlayLaws.{phases_end, phases_less, phases_more, same_both, words_first}
+use Rattle.vol_base.specs.laws.ResultLaws.{on_err_of}
+use Rattle.schedule.specs.Plays.{HasPlayed, at_word}
+use Rattle.schedule.specs.laws.PlayLaws.{phases_end, phases_less, phases_more, same_both, stopped_later, words_first}
 use Rattle.schedule.proofs.playing.play.Goals as goal
 
 pub loop-at-init : goal.loop-at-init
@@ -48,3 +49,9 @@ returns-then-not-next_phase-clause-played g c =
     (sym (c.next_phase.ensures.unchanged c.if-not-next_phase.true))
     (phases_end c.args.words.now c.loop-at.at c.in_ok-at.at c.args.cluster.now c.loop-at.cluster c.by_phase.new.cluster
     c.loop-at.invariant.same c.loop-at.invariant.plays c.in_ok-at.ensures.played (c.next_phase.ensures.last c.if-not-next_phase.true))
+
+pub returns-in_err-at-clause-stopped : goal.returns-in_err-at-clause-stopped
+returns-in_err-at-clause-stopped g c =
+    on_err_of c.from_residual.result
+    (stopped_later c.args.cluster.now.parts (at_word c.args.words.now 0) c.loop-at.cluster.parts (at_word c.args.words.now c.loop-at.at)
+    c.by_phase.new.cluster.parts c.loop-at.invariant.plays.plays c.loop-at.invariant.same.workload c.in_err-at.ensures.stopped)

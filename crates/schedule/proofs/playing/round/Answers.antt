@@ -1,6 +1,7 @@
 use Rattle.std.proofs.Common.{◌≡◌, ◌+◌, ℕ, true, false, refl, sym, subst, ◌∙◌, arith}
-use Rattle.schedule.specs.Plays.{PlaysUpTo}
-use Rattle.schedule.specs.laws.PlayLaws.{round_end, round_idle, same_both, up_first, up_more}
+use Rattle.vol_base.specs.laws.ResultLaws.{on_err_of}
+use Rattle.schedule.specs.Plays.{PlaysUpTo, in_round, wrapped}
+use Rattle.schedule.specs.laws.PlayLaws.{round_end, round_idle, same_both, stopped_here, up_first, up_more}
 use Rattle.schedule.proofs.playing.round.Goals as goal
 
 pub loop-host-init : goal.loop-host-init
@@ -40,3 +41,9 @@ returns-clause-played g c =
     round_end c.hosts-hosts.result c.args.cluster.now c.loop-host.cluster
     (subst (λ (n : ℕ). PlaysUpTo c.hosts-hosts.result c.args.cluster.now c.loop-host.cluster n) last c.loop-host.invariant.plays)
     c.hosts-hosts.ensures.nobody
+
+pub returns-in_err-step-clause-stopped : goal.returns-in_err-step-clause-stopped
+returns-in_err-step-clause-stopped g c =
+    on_err_of c.from_residual.result
+    (stopped_here c.args.cluster.now.parts (in_round 0) c.loop-host.cluster.parts (in_round (wrapped c.hosts-hosts.result c.loop-host.host))
+    c.step.new.cluster.parts c.loop-host.invariant.plays.plays c.in_err-step.ensures.refused)

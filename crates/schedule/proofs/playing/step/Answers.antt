@@ -1,10 +1,11 @@
 use Rattle.std.proofs.Common.{subst, ◌∙◌}
 use Rattle.vol_base.specs.Turned.{Stays}
+use Rattle.vol_base.specs.laws.ResultLaws.{on_err_of}
 use Rattle.vol_base.specs.declared.answer.Turn.{Turn}
 use Rattle.vol_base.specs.declared.block.Digest.{Digest}
 use Rattle.cluster.specs.Agreements.{Supplied, Turned}
 use Rattle.cluster.specs.Waits.{Tells}
-use Rattle.schedule.specs.laws.PlayLaws.{gone_turn, gone_work, same_both}
+use Rattle.schedule.specs.laws.PlayLaws.{gone_turn, gone_work, refused_turn, same_both}
 use Rattle.schedule.proofs.playing.step.Goals as goal
 
 pub returns-in-Work-clause-same : goal.returns-in-Work-clause-same
@@ -29,4 +30,12 @@ returns-in_default g c =
       gone =
           gone_turn c.args.cluster.now c.turn.new.self c.args.host c.in_ok-block.field-0 c.in_default.not-Work c.requires.busy turn.turned
           turn.live turn.phase turn.lowers turn.stays turn.tells;
+      refused = tt;
+      spent = tt;
     }
+
+pub returns-in_err-block-clause-refused : goal.returns-in_err-block-clause-refused
+returns-in_err-block-clause-refused g c =
+    on_err_of c.from_residual.result
+    (refused_turn c.args.cluster.now c.turn.new.self c.turn.result c.in_err-block.field-0.0 c.in_err-block.was c.requires.live c.turn.ensures.room
+    c.in_err-block.ensures.err)

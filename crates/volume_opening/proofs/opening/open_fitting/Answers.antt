@@ -1,5 +1,4 @@
-use Rattle.volume_opening.proofs.OpeningSteps.{blank_found, images_blank, images_formatted, not_blank_arm, opened_formatted, refused_format, unchanged_images}
-use Rattle.volume_opening.proofs.SlotSteps.{formatted_idle}
+use Rattle.volume_opening.proofs.OpeningSteps.{blank_found, images_blank, images_formatted, not_blank_arm, opened_formatted, opened_judged, refused_format, refused_judged, unchanged_images}
 use Rattle.volume_opening.proofs.opening.open_fitting.Goals as goal
 
 pub returns-in-Ok-clause-opened : goal.returns-in-Ok-clause-opened
@@ -14,11 +13,13 @@ returns-in-Err-clause-refused g c = refused_format _ _ _ c.in-Err.refusal _ c.fr
 pub returns-in-Err-clause-images : goal.returns-in-Err-clause-images
 returns-in-Err-clause-images g c = images_blank _ _ _ (blank_found _ c.args.block_zero.now c.in-Blank.is c.requires.found) c.in-Err.ensures.unformatted
 
-pub returns-in-Ok-clause-slots : goal.returns-in-Ok-clause-slots
-returns-in-Ok-clause-slots g c = λ look. formatted_idle c.args.geometry.now _ c.in-Ok.ensures.formatted
+pub returns-in-Volume-clause-opened : goal.returns-in-Volume-clause-opened
+returns-in-Volume-clause-opened g c =
+    opened_judged _ _ _ c.args.block_zero.now c.list_faults.result c.judge.result c.list_faults.ensures.same (not_blank_arm c.args.block_zero.now c.in-Volume.is) c.requires.found c.requires.fits c.list_faults.ensures.faults c.judge.ensures.faultless
 
-pub open_used-requires-clause-not_blank : goal.open_used-requires-clause-not_blank
-open_used-requires-clause-not_blank g c = not_blank_arm c.args.block_zero.now c.in-Volume.is
+pub returns-in-Volume-clause-refused : goal.returns-in-Volume-clause-refused
+returns-in-Volume-clause-refused g c =
+    refused_judged _ _ _ c.args.block_zero.now c.list_faults.result c.judge.result c.list_faults.ensures.same (not_blank_arm c.args.block_zero.now c.in-Volume.is) c.requires.found c.requires.fits c.list_faults.ensures.faults c.judge.ensures.faults c.judge.ensures.fits c.judge.ensures.no_keys
 
 pub returns-in-Volume-clause-images : goal.returns-in-Volume-clause-images
-returns-in-Volume-clause-images g c = unchanged_images _ _ _ c.open_used.ensures.same
+returns-in-Volume-clause-images g c = unchanged_images _ _ _ c.list_faults.ensures.same

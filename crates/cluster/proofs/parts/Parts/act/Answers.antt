@@ -1,4 +1,5 @@
-use Rattle.std.proofs.Common.{None, Some, is_some, ap, ◌∙◌, arith}
+use Rattle.std.proofs.Common.{None, Some, is_some, slice_get, ap, ◌∙◌, arith}
+use Rattle.host_runs.specs.laws.NextLineLaws.{next-at}
 use Rattle.cluster.specs.laws.ActLaws.{entries_there, events_there, may_step, sound_then, standing_then, turned_as}
 use Rattle.cluster.specs.laws.PartsLaws.{line_below, line_within}
 use Rattle.cluster.specs.laws.SoonerLaws.{asked_there, ended_now, gone_on}
@@ -19,6 +20,12 @@ note-requires-clause-host g c =
     let heads = c.in-Ok.ensures.sound.heads in
     let same = ap (λ w. w.geometry.hosts) c.in-Ok.ensures.workload in
     omega (arith, below, heads, same)
+
+pub note-requires-clause-without : goal.note-requires-clause-without
+note-requires-clause-without g c =
+    let same = ap (λ v. v.ledger.answers) c.in-Ok.ensures.stepped.is in
+    let at = next-at c.args.self.now.workload.lines c.args.self.now.ledger.answers c.args.self.now.phase c.args.host c.args.position c.requires.at in
+    ap (λ answers. slice_get answers c.args.position) same ∙ at.without
 
 pub note-requires-clause-position : goal.note-requires-clause-position
 note-requires-clause-position g c =

@@ -1,0 +1,7 @@
+use Rattle.std.proofs.Common.{string_bytes, Global}
+use Rattle.jobs.proofs.WordLaws.{is_schedule_short}
+use Rattle.jobs.proofs.words.is_schedule.Goals as goal
+
+pub returns-then-words-le-MOST_HOSTS : goal.returns-then-words-le-MOST_HOSTS
+returns-then-words-le-MOST_HOSTS c =
+    is_schedule_short (string_bytes {Z = Global}) c.args.words.now c.are_hosts.result c.if-words-le-MOST_HOSTS.true c.are_hosts.ensures

@@ -1,2 +1,0 @@
-mod FreeLaws
-mod ReadLaws

@@ -1,3 +1,0 @@
-pub mod Free
-pub mod Turns
-pub mod laws
