@@ -10,16 +10,18 @@ use Rattle.file_plans.specs.Turns.{turns_at}
 use Rattle.held_cache.specs.Kept.{Cache}
 use Rattle.host_facts.specs.Views.{WorldView}
 use Rattle.recover_plan.specs.CallsLeft.{calls_left}
+use Rattle.share_plans.specs.Gatherings.{left}
 use Rattle.cluster.specs.LinesLeft.{lines_left}
 use Rattle.cluster.specs.Parts.{asked_of}
 use Rattle.cluster.specs.Views.{PartsView, seat_at}
 use Rattle.cluster.specs.declared.plan.Plan.{Plan}
-use Rattle.cluster.specs.declared.plan.Plan.TheVariants.{Files, Slots}
+use Rattle.cluster.specs.declared.plan.Plan.TheVariants.{Collects, Files, Slots}
 
 -- of a plan: its steps, and the turn in which a digest is handed in
 abbrev pub plan_left : WorldView → Cache → Plan → ℕ
 plan_left v c (Files plan) = turns_at v c plan.core plan.stage
 plan_left v c (Slots plan) = calls_left v plan.host plan.doing
+plan_left v c (Collects plan) = left plan.core plan.stage
 
 -- of a host: none where no command is under way
 abbrev pub seat_left : WorldView → Cache → Option Plan → ℕ

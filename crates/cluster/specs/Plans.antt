@@ -21,12 +21,16 @@ use Rattle.plan_parts.specs.declared.outcome.Outcome.TheVariants.{Open}
 use Rattle.recover_plan.specs.Nexts as slots
 use Rattle.recover_plan.specs.PlanSteps.{AreWatched, RestsWith}
 use Rattle.recover_plan.specs.Plans.{Agrees, PlanStands, command_of}
+use Rattle.share_plans.specs.Gatherings as collections
+use Rattle.share_plans.specs.declared.collect.CollectPlan.{CollectPlan}
+use Rattle.share_plans.specs.declared.collection.Gathering.TheVariants.{LocksPart}
+use Rattle.share_plans.specs.laws.GatheringStays.{begun}
 use Rattle.watch.specs.Looks.{nothing}
 use Rattle.watch.specs.declared.watch.Look.{Look}
 use Rattle.cluster.specs.declared.plan.Plan.{Plan}
-use Rattle.cluster.specs.declared.plan.Plan.TheVariants.{Files, Slots}
+use Rattle.cluster.specs.declared.plan.Plan.TheVariants.{Collects, Files, Slots}
 
--- a command that a plan runs: one on a file, the closing of a file, or one on slots that is not of the host's own
+-- a command that a plan runs: one on a file, the closing of a file, a collection, or one on slots that is not of the host's own
 abbrev pub IsPlanned : ℕ → Command → Type 0
 IsPlanned h (commands.Create f) = Unit {0}
 IsPlanned h (commands.Size f n) = Unit {0}
@@ -35,12 +39,14 @@ IsPlanned h (commands.Read f i) = Unit {0}
 IsPlanned h (commands.Punch f i) = Unit {0}
 IsPlanned h (commands.Remove f) = Unit {0}
 IsPlanned h (commands.Close f) = Unit {0}
+IsPlanned h (commands.Collect p) = Unit {0}
 IsPlanned h command = slots.IsOfPlan h command
 
 -- the plan is this host's, and runs the command
 abbrev pub IsOf : ℕ → Command → Plan → Type 0
 IsOf h command (Files plan) = (plan.core.host ≡ h) × Runs command plan.core.call
 IsOf h command (Slots plan) = (plan.host ≡ h) × (command_of plan.doing ≡ command)
+IsOf h command (Collects plan) = (plan.core.host ≡ h) × (commands.Collect plan.core.part ≡ command)
 
 -- a plan on a file before its first step: it has taken nothing, and come to nothing
 pub record IsFirst (plan : FilePlan) : Type 0 where
@@ -48,27 +54,38 @@ pub record IsFirst (plan : FilePlan) : Type 0 where
   pub comes : plan.core.outcome ≡ Open
   pub stage : plan.stage ≡ first_of plan.core.call
 
+-- a collection before its first step
+pub record IsFirstCollection (h : ℕ) (command : Command) (plan : CollectPlan) : Type 0 where
+  pub part : ℕ
+  pub command_is : command ≡ commands.Collect part
+  pub core : plan.core ≡ begun h part
+  pub stage : plan.stage ≡ LocksPart
+
 -- the plan of a command at its beginning
 abbrev pub IsBegun : ℕ → Command → Plan → Type 0
 IsBegun h command (Files plan) = (plan.core.host ≡ h) × Runs command plan.core.call × IsFirst plan
 IsBegun h command (Slots plan) = (plan.host ≡ h) × (plan.doing ≡ slots.first_of command) × slots.IsOfPlan h command
+IsBegun h command (Collects plan) = IsFirstCollection h command plan
+
+-- between two commands: what a host remembers of the slots of others holds, and so does what is kept of tables for it
+pub record IsResting (v : WorldView) (c : Cache) (h : ℕ) (watch : List (Option Look)) : Type 0 where
+  pub watched : AreWatched v h watch
+  pub cached : IsCached v c h
 
 -- what stands before each step: the plan, what its host remembers of the slots of others, and what is kept of tables for it
 abbrev pub PlanAt : WorldView → Cache → ℕ → List (Option Look) → Plan → Type 0
 PlanAt v c h watch (Files plan) = At v c plan.core plan.stage × AreWatched v h watch
 PlanAt v c h watch (Slots plan) = PlanStands v h watch plan.doing × IsCached v c h
+PlanAt v c h watch (Collects plan) = collections.At v plan.core plan.stage × IsResting v c h watch
 
 -- what the notes agree with there; no digest is waited for
 abbrev pub PlanNoted : Command → WorldView → ℕ → List (Option Look) → Plan → Notes → Type 0
 PlanNoted command v h watch (Files plan) n =
     NotedAt command v plan.core plan.stage n × (n.watch ≡ watch) × (wanted v.locks.geometry command n.calls n.digests n.asks ≡ None)
 PlanNoted command v h watch (Slots plan) n = Agrees h v watch plan.doing n
+PlanNoted command v h watch (Collects plan) n = collections.NotedAt v plan.core plan.stage n × (n.watch ≡ watch)
 
 -- behind a step: the plan stands, or its host is between two commands
-pub record IsResting (v : WorldView) (c : Cache) (h : ℕ) (watch : List (Option Look)) : Type 0 where
-  pub watched : AreWatched v h watch
-  pub cached : IsCached v c h
-
 abbrev pub StandsBehind : Command → WorldView → Cache → ℕ → List (Option Look) → Plan → Next → Type 0
 StandsBehind command w d h watch plan (Answered answer) = IsResting w d h watch
 StandsBehind command w d h watch plan (Work block) = ⊥
@@ -105,6 +122,7 @@ looks_behind next watch = watch
 abbrev pub IsAsking : Plan → Type 0
 IsAsking (Files plan) = plan.stage ≡ Asks
 IsAsking (Slots plan) = ⊥
+IsAsking (Collects plan) = ⊥
 
 abbrev pub IsSuppliedIn : Plan → Plan → Type 0
 IsSuppliedIn (Files plan) (Files later) = (later.core ≡ plan.core) × (later.stage ≡ Begins)

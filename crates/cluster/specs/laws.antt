@@ -6,6 +6,7 @@ pub mod AwaitLaws
 pub mod BeginLaws
 pub mod BegunTurns
 pub mod BudgetLaws
+pub mod CollectSteps
 pub mod FileSteps
 pub mod InvLaws
 pub mod LinesLeftLaws
@@ -27,4 +28,5 @@ pub mod StaysLaws
 pub mod StepTurns
 pub mod SupplyLaws
 pub mod TurnedLaws
+pub mod VolumeSteps
 pub mod WaitLaws

@@ -6,7 +6,7 @@ ghost use Rattle.workload.specs.Workloads.{IsAllowed};
 use vol_base::Command;
 use workload::Line;
 
-/// Whether a cluster can run the line: not yet the commands on hints, and `collect`.
+/// Whether a cluster can run the line: not yet the commands on hints.
 pub fn is_known(line: &Line) -> bool
     ensures { IsTrue result ↔ IsKnownLine line.now }
 {
@@ -16,7 +16,6 @@ pub fn is_known(line: &Line) -> bool
         | Command::Scan(_, _)
         | Command::Merge
         | Command::Serve
-        | Command::Collect(_)
         | Command::Scribble(_, _, _) => false,
         _ => true,
     }

@@ -3,7 +3,7 @@
 //! # What is proved
 //!
 //! - `Cluster::start` opens a device under the contract of `volume_opening::open`, and takes all memory of the run before (`HasStarted`,
-//!   `HasRefused`). The workload is one that can be run (`are_known`): not yet the commands on hints, and `collect`.
+//!   `HasRefused`). The workload is one that can be run (`are_known`): not yet the commands on hints.
 //! - `Cluster::turn`: from all notes of a run that agree with the cluster, the turn is one of the run, and some that agree are behind it
 //!   (`Turned`, in the words of `host_runs`: at most one device call; the files change with an entry alone, whose reply is the plain one;
 //!   each answer has its cause), for every death, failure, fencing and recovery. So whatever calls led from the start to the state before, they

@@ -13,6 +13,7 @@ use file_plans::FilePlan;
 use held_cache::HeldCache;
 use meta_world::MetaWorld;
 use recover_plan::RecoverPlan;
+use share_plans::CollectPlan;
 use shared_disk::Device;
 use vol_base::{Answer, Command, Digest, HostNo, Next, NoMemory, Step, plain_call};
 use watch::Watch;
@@ -24,6 +25,8 @@ pub enum Plan {
     Files(FilePlan),
     /// A command on slots.
     Slots(RecoverPlan),
+    /// The collection of a part's slots.
+    Collects(CollectPlan),
 }
 
 impl Plan {
@@ -34,6 +37,9 @@ impl Plan {
     {
         if let Command::Close(file) = *command {
             return Plan::Files(FilePlan::close_file(host, file));
+        }
+        if let Command::Collect(part) = *command {
+            return Plan::Collects(CollectPlan::new(host, part));
         }
         match plain_call(command) {
             Some(call) => Plan::Files(FilePlan::new(host, &call)),
@@ -73,6 +79,7 @@ impl Plan {
         match self {
             Plan::Files(plan) => step_on_file(plan, command, world, cache, watch),
             Plan::Slots(plan) => step_on_slots(plan, command, world, cache, watch),
+            Plan::Collects(plan) => step_of_collection(plan, command, world, cache, watch),
         }
     }
 }
@@ -134,6 +141,35 @@ fn step_on_slots<D: Device>(
     match plan.next(world, watch) {
         Ok(step) => {
             forget_behind(&step.next, host, cache);
+            Ok(step)
+        }
+        Err(no) => Err(no),
+    }
+}
+
+// A step of a collection.
+fn step_of_collection<D: Device>(
+    plan: &mut CollectPlan,
+    command: &Command,
+    world: &mut MetaWorld<D>,
+    cache: &mut HeldCache,
+    watch: &mut Watch,
+) -> Result<Step, NoMemory>
+    requires of { Command.Collect plan.old.core.part ≡ command.now }
+    requires at { PlanAt world.old cache.old plan.old.core.host watch.old (Plan.Collects plan.old) }
+    requires noted { (n : Notes) × PlanNoted command.now world.old plan.old.core.host watch.old (Plan.Collects plan.old) n }
+    ensures stepped { IfOk result (HasStepped command.now plan.old.core.host world.old world.new cache.new watch.old watch.new (Plan.Collects plan.old) (Plan.Collects plan.new)) }
+    ensures sooner { IfOk result (λ step. IsSooner world.old cache.old (Plan.Collects plan.old) world.new cache.new (Plan.Collects plan.new) step.next) }
+    ensures none { IfErr result (λ e. IsUntouched plan.old.core.host world.old world.new) }
+    ensures others { Others plan.old.core.host world.old world.new }
+    ensures leaves { LeavesOthers plan.old.core.host cache.old cache.new }
+{
+    let _command = command;
+    let host = plan.core.host;
+    match plan.next(world) {
+        Ok(step) => {
+            forget_behind(&step.next, host, cache);
+            forget_slots(&step.next, watch);
             Ok(step)
         }
         Err(no) => Err(no),

@@ -44,4 +44,8 @@
 //! - Carried by these (`FileEndings`): how such a turn goes on or ends (`goes_on`, `ends`), what tries and a full volume owe
 //!   (`owes_none`, `owes_key`, `owes_full_volume`), and of its command `file_joined`, `file_busy`, `busy_keeps`, `busy_looks`,
 //!   `plain_pending`, `memory_kept`.
+//! - The same of a command on the volume as a whole, which has no place (`VolumeTurn`, `VolumeOwes`): it goes on `owes_on`, `owes_asks_on`; it is
+//!   answered `owes_busy_on`, `owes_collected`, `owes_merged`, `owes_served`, `owes_logged`, `owes_scribbled`, `owes_refused`. Carried by
+//!   `VolumeEndings`: `volume_goes_on`, `volume_ends`, what is owed by a key or without one (`volume_key`, `volume_no_key`) and by a place or by
+//!   hints (`owes_no_other`), and of its command `volume_joined`, `volume_keeps`, `volume_looks`, `volume_no_call`.
 #![tactic(auto)]

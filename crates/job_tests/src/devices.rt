@@ -16,6 +16,8 @@ pub enum Edit {
     Put(&'static [Number]),
     /// The blocks from one place to another are filled with this byte.
     Fill(usize, usize, u8),
+    /// The entries of the table at a place: the first is this, and each is so much more than the one before it.
+    Entries(usize, u32, u32),
     /// There are so many blocks.
     Cut(usize),
     /// The counter is this.
@@ -32,6 +34,7 @@ pub fn edited(alloc: Global, disk: &MemDisk, edit: &Edit) -> Result<MemDisk, NoM
     match edit {
         Edit::Put(numbers) => put_all(&mut blocks, numbers),
         Edit::Fill(from, to, byte) => fill(&mut blocks, *from, *to, *byte),
+        Edit::Entries(place, first, step) => put_entries(&mut blocks, *place, *first, *step),
         Edit::Cut(count) => blocks.truncate(*count),
         Edit::Count(last) => counter = *last,
     }
@@ -41,6 +44,15 @@ pub fn edited(alloc: Global, disk: &MemDisk, edit: &Edit) -> Result<MemDisk, NoM
 fn put_all(blocks: &mut [Block], numbers: &[Number]) {
     for &(place, at, number) in numbers {
         put(blocks, place, at, number);
+    }
+}
+
+// Behind its header of 64 bytes a table has 1,008 entries.
+fn put_entries(blocks: &mut [Block], place: usize, first: u32, step: u32) {
+    let mut number = first;
+    for entry in 0..1008usize {
+        put(blocks, place, 64 + 4 * entry, number);
+        number = number.saturating_add(step);
     }
 }
 

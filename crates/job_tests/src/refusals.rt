@@ -42,7 +42,7 @@ fn words_of_no_form(rt: HostRuntime) -> Result<(), Fail> {
 }
 
 // Texts with their refusals. A text in the language is refused at its first line that no job runs yet.
-static TEXTS: [(&str, &str); 11] = [
+static TEXTS: [(&str, &str); 10] = [
     ("", "workload line 1: volume\n"),
     (
         "volume 2 4 1 1 4 1\n0 join\n16 join\n",
@@ -70,10 +70,6 @@ static TEXTS: [(&str, &str); 11] = [
     ),
     ("volume 2 4 1 1 1 1\n0 merge\n", "workload line 2: word\n"),
     ("volume 2 4 1 1 1 1\n0 serve\n", "workload line 2: word\n"),
-    (
-        "volume 2 4 1 1 1 1\n0 collect 0\n",
-        "workload line 2: word\n",
-    ),
     (
         "volume 2 4 1 1 1 1\n0 scribble 15 1 0\n",
         "workload line 2: word\n",

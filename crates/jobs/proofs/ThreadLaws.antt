@@ -7,7 +7,6 @@ use Rattle.workload.specs.declared.line.Workload.{Workload}
 use Rattle.host_runs.specs.Notes.{Notes}
 use Rattle.host_runs.specs.RunStates.{opening}
 use Rattle.host_runs.specs.Runs.{Run}
-use Rattle.cluster.specs.Origins.{OriginView, origin_of}
 use Rattle.cluster.specs.Runs.{Facts, IsIdle, SameStart, showing}
 use Rattle.cluster.specs.Starts.{HasStarted}
 use Rattle.cluster.specs.Views.{ClusterView, PartsView, disk_of, state_of}
@@ -15,10 +14,6 @@ use Rattle.cluster.specs.Waits.{has_line, line_now}
 use Rattle.jobs.specs.Runs.{ByThreads, IsOver, IsRunOf}
 use Rattle.jobs.proofs.ClusterLaws.{same_workload}
 use Rattle.jobs.proofs.RunEnds.{ended_run}
-
--- what threads give back is of the same start
-pub same_origin : (c d : ClusterView) → origin_of d ≡ origin_of c → SameStart c d
-same_origin c d same = record { began = ap (λ (o : OriginView). o.began) same; workload = ap (λ (o : OriginView). o.workload) same }
 
 no_line : (o : Option ℕ) → is_some o ≡ false → o ≡ None
 no_line None none = refl
@@ -33,11 +28,13 @@ ended_well (Ok x) well holds = holds
 ended_well (Err refused) well holds = absurd cc
 
 -- a phase that was run to its end
-pub phase_idle : {T E : Type 0} (v : PartsView) (ended : Result T E) → is_err ended ≡ false → OnOk ended ((host : ℕ) → has_line v host ≡ false) → IsIdle v
+pub phase_idle : {T E : Type 0} (v : PartsView) (ended : Result T E) → is_err ended ≡ false
+    → OnOk ended ((host : ℕ) → has_line v host ≡ false) → IsIdle v
 phase_idle v ended well idle = idle_of v (ended_well ended well idle)
 
 -- and the last one
-pub over_at : (c d : ClusterView) → IsIdle c.parts → c.parts.workload.phases ≤ c.parts.phase + 1 → c.spent ≡ false → d ≡ c → Facts d → IsOver d
+pub over_at : (c d : ClusterView) → IsIdle c.parts → c.parts.workload.phases ≤ c.parts.phase + 1 → c.spent ≡ false → d ≡ c → Facts d
+    → IsOver d
 over_at c d idle last live same facts = record {
   idle = subst (λ (v : ClusterView). IsIdle v.parts) (sym same) idle;
   last = subst (λ (v : ClusterView). v.parts.workload.phases ≤ v.parts.phase + 1) (sym same) last;

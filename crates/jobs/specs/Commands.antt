@@ -60,7 +60,7 @@ pub record UsageEnds (before after : Seen) (status : Status) : Type 0 where
   pub source : after.source ≡ before.source
   pub disk : after.disk ≡ before.disk
 
--- a job that needs no threads ends with this status, by the words that ask for it; the one that needs them is not done, as words of no form
+-- a call without threads ends with this status, by the job that its words ask for; `run` is to it as words of no form
 abbrev pub JobEnds : Option Job → List ℕ → Seen → Seen → Status → Type 0
 JobEnds None hosts = UsageEnds
 JobEnds (Some Sim) hosts = SimEnds (ByWords hosts)

@@ -129,7 +129,7 @@ pub record HasEnded (v : PartsView) : Type 0 where
   pub answered : All (λ answer. IsSome answer) v.ledger.answers
   pub placed : All (λ entry. entry.line < length v.workload.lines) v.ledger.history
 
--- and one whose hosts are all idle in the last phase, and which was refused no memory
+-- a cluster whose hosts are all idle in the last phase, and which was refused no memory
 pub record IsOver (c : ClusterView) : Type 0 where
   pub idle : IsIdle c.parts
   pub last : c.parts.workload.phases ≤ c.parts.phase + 1

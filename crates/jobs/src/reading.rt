@@ -86,7 +86,6 @@ fn is_built(command: &Command) -> bool
         | Command::Scan(_, _)
         | Command::Merge
         | Command::Serve
-        | Command::Collect(_)
         | Command::Scribble(_, _, _) => false,
         _ => true,
     }

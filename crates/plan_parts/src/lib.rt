@@ -8,6 +8,8 @@
 //!   that may be the place of its command (`PlacedCall`) differs in what the files become (`placed_write`). Each is a turn of its
 //!   command (`quiet_turn`, `placed_turn`).
 //! - A step that was refused cuts its command (`IsCut`, `cut_of`), and is the turn in which it is cut (`cut_turn`).
+//! - A step of a command on the volume as a whole owes a run no more than its quiet call shows: it goes on (`volume_step_goes_on`), is answered with
+//!   a cause (`volume_step_ends`), or is cut (`volume_step_cut`).
 //! - `Applying`: behind a commit each step writes the first table that is left, with all edits of the record, which the host then
 //!   knows; and when none is left, the empty journal. It stands behind a commit (`committed`), and over the calls of other hosts
 //!   (`applying_still`).

@@ -1,3 +1,4 @@
+pub mod CollectLaws
 pub mod FileLaws
 pub mod RecordLaws
 pub mod SlotLaws

@@ -1,5 +1,6 @@
 // Commands on files: each table of rows, on the volumes that it is for.
 use crate::rows::{crosses, plays};
+use crate::tables::collections::{ARENA, BUSY_ARENA, BUSY_COLLECTION, COLLECTIONS, EMPTY_ARENA};
 use crate::tables::crossings::{
     BUSY_GROUP, BUSY_GROUPS, BUSY_SHARED, BUSY_SHARED_VOLUME, BUSY_VOLUME, CROSSED_HOLDS,
 };
@@ -90,4 +91,16 @@ fn two_hosts_at_once(rt: HostRuntime) -> Result<(), Fail> {
     crosses(&rt, rt.alloc(), &volume, &CROSSED_HOLDS)?;
     crosses(&rt, rt.alloc(), &BUSY_VOLUME, &BUSY_GROUPS)?;
     crosses(&rt, rt.alloc(), &BUSY_SHARED_VOLUME, &BUSY_SHARED)
+}
+
+#[test]
+fn collections(rt: HostRuntime) -> Result<(), Fail> {
+    plays(&rt, rt.alloc(), &ARENA, &COLLECTIONS)?;
+    plays(
+        &rt,
+        rt.alloc(),
+        &Volume::formatted(THREE_GROUPS),
+        &EMPTY_ARENA,
+    )?;
+    crosses(&rt, rt.alloc(), &BUSY_ARENA, &BUSY_COLLECTION)
 }

@@ -6,8 +6,9 @@ ghost use Rattle.lock_store.specs.Views.{told_of};
 ghost use Rattle.plan_tests.specs.Caches.{AreCached};
 
 use crate::caches::Caches;
+use crate::collections::collect;
 use crate::files;
-use crate::ready::{has, has_file, is_ready, may_act};
+use crate::ready::{has, has_file, has_part, is_ready, may_act};
 use crate::slots::{Eyes, act, join};
 use file_plans::FileCall;
 use held_cache::HeldCache;
@@ -16,8 +17,8 @@ use shared_disk::Device;
 use std::process::Abort;
 use vol_base::{Answer, Command, HostNo, plain_call};
 
-/// Runs a command of a host to its answer, or by so many steps. A host that leaves, or is about to recover another one, keeps no tables
-/// any more.
+/// Runs a command of a host to its answer, or by so many steps. A host that leaves, collects, or is about to recover another one keeps no
+/// tables any more.
 pub fn run<D: Device>(
     rt: &impl Abort,
     world: &mut MetaWorld<D>,
@@ -61,6 +62,12 @@ fn run_one<D: Device>(
             assert!(rt; may_act(world, host));
             cache.forget_host(host);
             act(world, eyes, host, command, most)
+        }
+        Command::Collect(part) => {
+            assert!(rt; is_ready(world, host));
+            assert!(rt; has_part(world, part));
+            cache.forget_host(host);
+            collect(world, host, part, most)
         }
         _ => run_call(rt, world, cache, host, &call_of(rt, command), most),
     }

@@ -27,6 +27,8 @@
 //! - `full_groups`: a write that meets all groups full, a search that goes round, and a block that was given back;
 //! - `purges`: pointers behind the end of a file, of two groups, more than a record has room for, and two of one block;
 //! - `readers`: holds of several readers, a reader that comes to write, `close` of a file that is only read, and readers that left or died;
+//! - `collections`: slots of two parts whose data blocks nothing else names, or a file too, more than a record has room for, in two groups; no
+//!   slot; and a group that another host has;
 //! - `crossings`: a command in the midst of which another host runs a whole one: a group that is busy behind none, one or two that were locked,
 //!   the same for the group of a shared block, and locks of files whose readers close or leave between two tries.
 //!
@@ -41,6 +43,8 @@
 mod alone;
 #[cfg(test)]
 mod caches;
+#[cfg(test)]
+mod collections;
 #[cfg(test)]
 mod commands;
 #[cfg(test)]

@@ -26,6 +26,13 @@ pub fn has_file<D: Device>(world: &MetaWorld<D>, call: &FileCall) -> bool
     call.file() < world.locks().geometry().files
 }
 
+/// Whether the volume has the part.
+pub fn has_part<D: Device>(world: &MetaWorld<D>, part: u8) -> bool
+    ensures { IsTrue result → part < world.now.locks.geometry.parts }
+{
+    part < world.locks().geometry().parts
+}
+
 /// Whether the host is joined, and holds no part and no group.
 #[tactic(auto, using(crate::proofs::WorldLaws::none_stands))]
 pub fn is_ready<D: Device>(world: &MetaWorld<D>, host: HostNo) -> bool

@@ -166,6 +166,7 @@ fn answer_text(alloc: Global, answer: Option<Answer>) -> Result<String, AllocErr
         Some(Answer::Joined(key)) => numbered(alloc, "joined", key.0),
         Some(Answer::Busy(key)) => numbered(alloc, "busy", key.0),
         Some(Answer::Seen(count)) => numbered(alloc, "seen", u64::from(count)),
+        Some(Answer::Collected(count)) => numbered(alloc, "collected", u64::from(count)),
         Some(Answer::Fine) => String::from_str(alloc, "ok"),
         Some(Answer::Full) => String::from_str(alloc, "full"),
         Some(Answer::Recovered) => String::from_str(alloc, "recovered"),

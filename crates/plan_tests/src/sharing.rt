@@ -6,6 +6,7 @@ ghost use Rattle.plan_parts.specs.Steps.{IsReady};
 ghost use Rattle.share_plans.specs.Stands.{HasPlaces, HasSource, IsHost};
 ghost use Rattle.vol_layout.specs.Ranges.{HasResource};
 
+use crate::collections::collect;
 use crate::holds::Came;
 use crate::noting::Call::{self, Found, Read, Swap, Write};
 use crate::steps::{FIRST, expect, joined, made};
@@ -20,7 +21,7 @@ use shared_disk::Device;
 use std::alloc::Global;
 use std::process::Abort;
 use std::test::Fail;
-use vol_base::{Block, FileNo, HostNo, NoMemory};
+use vol_base::{Answer, Block, FileNo, HostNo, NoMemory};
 use vol_layout::{Kind, Resource, Table};
 
 /// Shares the block of a file, by at most eighteen steps; `None` where more are left.
@@ -75,14 +76,14 @@ pub fn promote<D: Device>(
 #[tactic(auto, using(crate::proofs::WorldLaws::still, crate::proofs::UntoldLaws::stays))]
 impl Worlds {
     /// A volume whose files 0 and 1 have one block each, data blocks 0 and 1, of zeros but for these last bytes of their first number. All
-    /// slots of the arena name data block 0, or none does.
+    /// 1,008 slots of the arena name data block 0, and it has this count, or none does.
     fn of_two(alloc: Global, bytes: [u8; 2], named: bool) -> Result<Worlds, NoMemory> {
         let mut blocks = Vec::new(alloc);
         for place in 0..GEOMETRY.total() {
             let blank = GEOMETRY.blank(place);
             let block = match GEOMETRY.kind(place) {
                 Some(Kind::Table(Table::File(file))) => with(with(blank, 15, 2), 67, file + 1),
-                Some(Kind::Table(Table::Group(0))) => with(with(blank, 67, 1), 71, 1),
+                Some(Kind::Table(Table::Group(0))) => with(counted(blank, named), 71, 1),
                 Some(Kind::Table(Table::Part(0))) if named => full(blank),
                 Some(Kind::Number(0)) => with(blank, 7, bytes[0]),
                 Some(Kind::Number(1)) => with(blank, 7, bytes[1]),
@@ -140,12 +141,29 @@ impl Worlds {
         Some(self.world.locks_mut().try_lock(host, what))
     }
 
+    /// Collects the slots of a part of the volume.
+    fn collect(&mut self, host: HostNo, part: u8) -> Option<Answer> {
+        if !self.is_ready(host) || part >= self.world.locks().geometry().parts {
+            return None;
+        }
+        collect(&mut self.world, host, part, 20)
+    }
+
     /// Promotes the block of a file that the host holds.
     fn promote(&mut self, host: HostNo, file: FileNo, index: u32) -> Asked<Option<Promoted>> {
         if !self.is_ready(host) || !self.is_writer(host, file) {
             return None;
         }
         Some(promote(&mut self.world, host, file, index))
+    }
+}
+
+// A table whose first number is 1,008 or 1.
+fn counted(blank: Block, many: bool) -> Block {
+    if many {
+        with(with(blank, 66, 3), 67, 240)
+    } else {
+        with(blank, 67, 1)
     }
 }
 
@@ -303,7 +321,7 @@ fn a_block_is_linked_to_another_file(rt: HostRuntime) -> Result<(), Fail> {
     Ok(())
 }
 
-// Each slot of the part names data block 0, and file 1 has another block, which differs from it at byte 7.
+// Each slot of the part names data block 0, and file 1 has another block, which differs from it at byte 7. No slot can be emptied.
 #[test]
 fn a_full_part_and_other_bytes(rt: HostRuntime) -> Result<(), Fail> {
     let mut worlds = Worlds::of_two(rt.alloc(), [1, 2], true)?;
@@ -314,6 +332,7 @@ fn a_full_part_and_other_bytes(rt: HostRuntime) -> Result<(), Fail> {
         worlds.share(0, 1, 0, Place::Arena(5)),
         shared(Shared::Differs(7)),
     );
+    expect(&rt, worlds.collect(0, 0), Some(Answer::Collected(0)));
     let calls = [
         Swap(7),
         Swap(8),
@@ -328,6 +347,12 @@ fn a_full_part_and_other_bytes(rt: HostRuntime) -> Result<(), Fail> {
         Read(23),
         Read(24),
         Write(10),
+        Swap(9),
+        Read(16),
+        Swap(10),
+        Read(14),
+        Write(10),
+        Write(9),
     ];
     made(&rt, worlds, &calls);
     Ok(())

@@ -1,4 +1,5 @@
 // The tables of commands: each row has all device calls of its command and its answer.
+pub mod collections;
 pub mod crossings;
 pub mod full_groups;
 pub mod held;

@@ -1,10 +1,13 @@
 pub mod Causes
 pub mod Closings
+pub mod GatheringSteps
+pub mod Gatherings
 pub mod Lefts
 pub mod LinkRecords
 pub mod Places
 pub mod Promotions
 pub mod ReadTables
+pub mod Spents
 pub mod Spots
 pub mod Stands
 pub mod Went

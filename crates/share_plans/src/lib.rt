@@ -1,4 +1,5 @@
-//! Plans by which equal blocks come to share one place, cut at each device call. Each is a part of a larger command of its host.
+//! Plans by which equal blocks come to share one place, each a part of a larger command of its host, and the command by which slots are emptied
+//! that nothing shares any more. All are cut at each device call.
 //!
 //! # What is proved
 //!
@@ -23,16 +24,28 @@
 //!   host holds no part and no group (`IsReady`).
 //! - The plans begin where their host is ready and holds their files (`share_begins`, `promote_begins`), and stand over the calls of other
 //!   hosts (`share_still`, `promote_still`).
+//! - `CollectPlan::next`: the whole command `collect`. A step makes one device call, which is a turn of the command and shows the cause of its
+//!   answer (`VolumeTurn`), so that the step owes nothing more to a run (`HasStepped`). No file changes, and what other hosts rely on stays
+//!   (`Others`). Fewer steps are left, and at most 4,227 come.
+//! - Each commit empties exactly slots whose logical number names a block of logical count 1, and sets these counts to 0 (`IsCollection`,
+//!   `Empties`). The list of groups is what the part's slots name at its read under the lock, and a group leaves it at the step alone that
+//!   frees its lock (`KeepsList`), at which no slot of the part names a block of that group with count 1 (`HasNoLoneSlot`). `Collected` comes
+//!   only where the list was read and is empty, with the number of slots that were emptied (`IsAnswerAt`).
+//! - It begins where its host is ready (`collect_begins`, `collect_noted`), and stands over the calls of other hosts, as do the notes that agree
+//!   with it (`collect_still`, `collect_noted_still`).
 //!
 //! Over a device that tells nothing a count at its greatest number stays as it is; over one that tells, a link always has room for one more.
-//! The merge, the serving of requests and the settling of a volume will call these plans, and none does yet. The emptying of slots whose blocks
-//! nothing else names is not built.
+//! The merge, the serving of requests and the settling of a volume will call the plans of sharing, and none does yet.
 #![tactic(auto)]
 
 mod closing;
+mod collect;
+mod collecting;
+mod collection;
 mod comparing;
 mod counting;
 mod ending;
+mod groups;
 mod linking;
 mod locking;
 mod peeking;
@@ -43,9 +56,12 @@ mod reading;
 mod share;
 mod sharing;
 mod sight;
+mod spending;
 mod stage;
 mod tables;
 
+pub use collect::CollectPlan;
+pub use collection::{Collection, Gathering};
 pub use promote::PromotePlan;
 pub use promotion::Promoted;
 pub use share::SharePlan;

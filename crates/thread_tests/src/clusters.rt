@@ -22,11 +22,13 @@ barrier
 1 write 1 0 2
 ";
 
-// The lines of the first phase, and of those the ones that change a file. The first of host 1 is its `create`.
+// The lines of the first phase.
 const FIRST_PHASE: usize = 6;
 
+// Those of them that change a file.
 const CHANGES: usize = 4;
 
+// The position of the `create` of host 1.
 const CREATE: u32 = 4;
 
 // Host 0 waits inside its `create` until host 1 has joined and has created its file, so the history begins with that.

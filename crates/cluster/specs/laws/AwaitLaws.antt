@@ -20,10 +20,11 @@ use Rattle.recover_plan.specs.declared.plan.Doing.TheVariants as doings
 use Rattle.watch.specs.declared.watch.Look.{Look}
 use Rattle.cluster.specs.Agreements.{Agree, IsSound, IsStanding, IsSteady}
 use Rattle.cluster.specs.Parts.{asked_by}
+use Rattle.cluster.specs.Plans.{IsOf}
 use Rattle.cluster.specs.Seats.{IsKnown, PlanNotedOf, PlanStandsOf, joined_of}
 use Rattle.cluster.specs.Views.{PartsView, seat_at, state_of}
 use Rattle.cluster.specs.declared.plan.Plan.{Plan}
-use Rattle.cluster.specs.declared.plan.Plan.TheVariants.{Files, Slots}
+use Rattle.cluster.specs.declared.plan.Plan.TheVariants.{Collects, Files, Slots}
 use Rattle.cluster.specs.laws.ActLaws.{joined_now}
 use Rattle.cluster.specs.laws.PartsLaws.{line_below}
 use Rattle.cluster.specs.laws.TurnedLaws.{command_there, line_there}
@@ -104,6 +105,13 @@ module _ (v : PartsView) (h position : ℕ) (line : Line) (sound : IsSound v) (s
       subst (λ (c : Command). PlanNotedOf c v.world h (seat_at v h).watch (seat_at v h).plan (notes h))
       (command_there v h line (line_there v h position line next is)) (agree.noted h (line_below v h sound position next))
 
+  -- a plan runs the command of the line
+  runs_line : (plan : Plan) → (seat_at v h).plan ≡ Some plan → IsOf h line.command plan
+  runs_line plan some =
+      (subst (λ (p : Option Plan). PlanStandsOf line.command v.world v.cache h (seat_at v h).watch p) some
+      (subst (λ (c : Command). PlanStandsOf c v.world v.cache h (seat_at v h).watch (seat_at v h).plan)
+      (command_there v h line (line_there v h position line next is)) (standing.stands h (line_below v h sound position next)))).0
+
   waits : (plan : Option Plan) → (seat_at v h).plan ≡ plan → (b : Bool) → joined_of v.world h line.command plan ≡ b
       → PlanNotedOf line.command v.world h (seat_at v h).watch plan (notes h)
       → wanted_at g b (notes h) (Some line) ≡ asked_by_key plan key line.command
@@ -116,12 +124,14 @@ module _ (v : PartsView) (h position : ℕ) (line : Line) (sound : IsSound v) (s
       subst (λ (k : Geometry). wanted k line.command (notes h).calls (notes h).digests (notes h).asks ≡ None) sound.geometry agreed.2
       ∙ sym (plan_asks (Files plan) key line.command)
   waits (Some (Slots plan)) some true joined agreed =
-      let of = (subst (λ (p : Option Plan). PlanStandsOf line.command v.world v.cache h (seat_at v h).watch p) some
-      (subst (λ (c : Command). PlanStandsOf c v.world v.cache h (seat_at v h).watch (seat_at v h).plan)
-      (command_there v h line (line_there v h position line next is)) (standing.stands h (line_below v h sound position next)))).0 in
-      subst (λ (c : Command). wanted g c (notes h).calls (notes h).digests (notes h).asks ≡ None) of.1
+      subst (λ (c : Command). wanted g c (notes h).calls (notes h).digests (notes h).asks ≡ None) (runs_line (Slots plan) some).1
       (slots_wait g v.world h (seat_at v h).watch plan.doing (notes h) sound.geometry agreed)
       ∙ sym (plan_asks (Slots plan) key line.command)
+  waits (Some (Collects plan)) some true joined agreed =
+      subst (λ (c : Command). wanted g c (notes h).calls (notes h).digests (notes h).asks ≡ None) (runs_line (Collects plan) some).1
+      (subst (λ (k : Geometry). wanted k (commands.Collect plan.core.part) (notes h).calls (notes h).digests (notes h).asks ≡ None) sound.geometry
+      agreed.0.noted.wants)
+      ∙ sym (plan_asks (Collects plan) key line.command)
 
   pub awaits_line : awaited v.workload (state_of v notes) h ≡ asked_by v h line.command
   unfolding awaited

@@ -34,12 +34,16 @@ use Rattle.recover_plan.specs.Plans.{Agrees, PlanStands, command_of}
 use Rattle.recover_plan.specs.declared.plan.Doing.{Doing}
 use Rattle.recover_plan.specs.laws.FirstLaws.{first_noted, first_stands}
 use Rattle.recover_plan.specs.laws.StepLaws.{ready_key}
+use Rattle.share_plans.specs.Gatherings as collections
+use Rattle.share_plans.specs.declared.collection.Collection.{Collection}
+use Rattle.share_plans.specs.declared.collection.Gathering.{Gathering}
+use Rattle.share_plans.specs.laws.GatheringStays.{begun, collect_begins, collect_noted}
 use Rattle.watch.specs.declared.watch.Look.{Look}
 use Rattle.workload.specs.Ranges.{is_in_range, is_narrow}
 use Rattle.cluster.specs.Plans.{IsBegun, IsOf, IsResting, PlanAt, PlanNoted}
 use Rattle.cluster.specs.Seats.{RestsAs, at_once}
 use Rattle.cluster.specs.declared.plan.Plan.{Plan}
-use Rattle.cluster.specs.declared.plan.Plan.TheVariants.{Files, Slots}
+use Rattle.cluster.specs.declared.plan.Plan.TheVariants.{Collects, Files, Slots}
 
 -- a command that is not answered at once is one of a joined host, or a `join` of one that is not
 pub joined_is : (command : Command) (joined : Bool) → at_once command joined ≡ None → joined ≡ joined_in command
@@ -80,6 +84,8 @@ of_begun h command (Slots plan) is = (is.0, ap command_of is.1 ∙ command_first
     command_first h (commands.Look y) of = refl
     command_first h (commands.Recover y) of = refl
     command_first h command of = absurd of
+of_begun h command (Collects plan) is =
+    (ap (λ (x : Collection). x.host) is.core, ap (λ (x : Collection). commands.Collect x.part) is.core ∙ sym is.command_is)
 
 -- its file is one of the volume
 file_below : (g : Geometry) (command : Command) (call : FileCall) → IsTrue (is_in_range g command) → Runs command call → file_of call < g.files
@@ -141,6 +147,14 @@ module _ (v : WorldView) (c : Cache) (h : ℕ) (watch : List (Option Look)) (con
         (first_stands v h watch command below of (may_begin command of range joined) resting.watched),
     resting.cached,
   )
+  begun_at (Collects plan) is =
+      let ready = ready_of v h rests (joined ∙ ap joined_in is.command_is) in
+      let part = subst (λ (k : Command). IsTrue (is_in_range v.locks.geometry k)) is.command_is range in (
+        subst (λ (x : Collection). collections.At v x plan.stage) (sym is.core)
+            (subst (λ (s : Gathering). collections.At v (begun h is.part) s) (sym is.stage)
+            (collect_begins v h is.part ready below (ltb-true is.part v.locks.geometry.parts part))),
+        resting,
+      )
 
 -- the notes of a host between two commands agree with the beginning of a command that asks for no digest
 pub begun_noted : (v : WorldView) (h : ℕ) (watch : List (Option Look)) (command : Command) (plan : Plan) (n : Notes)
@@ -153,6 +167,11 @@ begun_noted v h watch command (Files plan) n none (host, runs, first) rests = (
 )
 begun_noted v h watch command (Slots plan) n none (host, doing, of) rests =
     subst (λ (d : Doing). Agrees h v watch d n) (sym doing) (first_noted v h watch n rests command of)
+begun_noted v h watch command (Collects plan) n none is rests = (
+  subst (λ (x : Collection). collections.NotedAt v x plan.stage n) (sym is.core)
+      (subst (λ (s : Gathering). collections.NotedAt v (begun h is.part) s n) (sym is.stage) (collect_noted v h is.part n rests.rests)),
+  rests.watch_is,
+)
 
 -- and where the digest of its block was handed in
 module _ (v : WorldView) (h : ℕ) (watch : List (Option Look)) (command : Command) (plan : FilePlan) (digest : Digest)

@@ -1,5 +1,5 @@
 -- How many turns are left of a plan at its beginning, behind a step, and behind a turn of another host.
-use Rattle.std.proofs.Common.{Err, IfOk, Ok, Result, ◌≡◌, ◌≢◌, ◌<◌, ◌≤◌, ◌-◌, ◌^◌, ◌∙◌, ℕ, List, Option, Some, None, sym, subst, arith}
+use Rattle.std.proofs.Common.{Err, IfOk, Ok, Result, ◌≡◌, ◌≢◌, ◌<◌, ◌≤◌, ◌+◌, ◌-◌, ◌*◌, ◌^◌, ◌∙◌, ℕ, List, Option, Some, None, inl, inr, ap, sym, subst, arith}
 use Rattle.vol_base.specs.declared.command.Command.{Command}
 use Rattle.vol_layout.specs.Ranges.{IsGeometry}
 use Rattle.disk_locks.specs.Consistent.{Consistent}
@@ -25,14 +25,41 @@ use Rattle.cluster.specs.PlanTurns.{GoesSooner, IsSooner, turn_limit, plan_left,
 use Rattle.cluster.specs.Plans.{IsBegun, PlanAt}
 use Rattle.cluster.specs.Seats.{PlanStandsOf}
 use Rattle.cluster.specs.declared.plan.Plan.{Plan}
-use Rattle.cluster.specs.declared.plan.Plan.TheVariants.{Files, Slots}
+use Rattle.cluster.specs.declared.plan.Plan.TheVariants.{Collects, Files, Slots}
+use Rattle.vol_base.specs.declared.answer.Answer.TheVariants.{Cut}
 use Rattle.vol_base.specs.declared.answer.Next.{Next}
+use Rattle.vol_base.specs.declared.answer.Next.TheVariants.{Answered, More}
+use Rattle.vol_base.specs.declared.answer.Step.{Step}
+use Rattle.vol_layout.specs.Ranges.{per_table}
+use Rattle.share_plans.specs.Gatherings.{left, left_behind}
+use Rattle.share_plans.specs.GatheringSteps.{HasStepped, next_of, stage_of}
+use Rattle.share_plans.specs.declared.collect.CollectPlan.{CollectPlan}
+use Rattle.share_plans.specs.declared.collection.Gathered.{Gathered}
+use Rattle.share_plans.specs.declared.collection.Gathered.TheVariants as gathered
+use Rattle.share_plans.specs.declared.collection.Gathering.{Gathering}
 
 -- a step on slots leaves fewer, whatever comes behind it
 pub slots_sooner : (v w : WorldView) (c d : Cache) (old new : RecoverPlan) (next : Next) → new.host ≡ old.host
     → calls_left w old.host new.doing < calls_left v old.host old.doing → IsSooner v c (Slots old) w d (Slots new) next
 slots_sooner v w c d old new next host fewer = λ more.
     subst (λ (h : ℕ). calls_left w h new.doing < calls_left v old.host old.doing) (sym host) fewer
+
+-- a step of a collection leaves fewer where the collection goes on
+pub collect_sooner : (v w : WorldView) (c d : Cache) (old new : CollectPlan) (step : Step)
+    → HasStepped v w old.core new.core old.stage new.stage step → IsSooner v c (Collects old) w d (Collects new) step.next
+collect_sooner v w c d old new step (inr cut) = λ more.
+    let both : Answered (Cut cut.by) ≡ More = sym (ap (λ (s : Step). s.next) cut.step_is) ∙ more in absurd cc
+collect_sooner v w c d old new step (inl (came, went, step_is, after_is)) = λ more.
+    cases came (sym (ap (λ (s : Step). s.next) step_is) ∙ more) went.less after_is
+  where
+    cases : (came : Gathered) → next_of came ≡ More → left_behind new.core came < left old.core old.stage → new.stage ≡ stage_of came
+        → left new.core new.stage < left old.core old.stage
+    cases (gathered.More stage) more less is = subst (λ (s : Gathering). left new.core s < left old.core old.stage) (sym is) less
+    cases (gathered.Answered answer) more less is = absurd cc
+
+few_collected : 4 * per_table + 195 < 2 ^ 28
+unfolding per_table
+few_collected = omega arith
 
 -- no command has 2 ^ 28 turns at its beginning
 pub begun_few : (v : WorldView) (c : Cache) (h : ℕ) (watch : List (Option Look)) (command : Command) (plan : Plan) → IsGeometry v.locks.geometry
@@ -43,6 +70,8 @@ begun_few v c h watch command (Slots plan) volume begun at =
     let most = calls_most v h watch plan.doing at.0 in
     subst (λ (x : ℕ). calls_left v x plan.doing < 2 ^ 28) (sym begun.0)
     (omega (arith, most, volume.files.1, volume.parts.1, volume.groups.1))
+begun_few v c h watch command (Collects plan) volume begun at =
+    subst (λ (s : Gathering). left plan.core s < 2 ^ 28) (sym begun.stage) few_collected
 
 -- and fewer where the digest of its block was handed in
 pub supplied_few : (v : WorldView) (c : Cache) (h : ℕ) (command : Command) (before after : FilePlan) → IsGeometry v.locks.geometry
@@ -64,6 +93,7 @@ pub seat_stays : (v w : WorldView) (c d : Cache) (h x : ℕ) → Consistent v.lo
 seat_stays v w c d h x consistent others leaves apart watch command None stands = omega arith
 seat_stays v w c d h x consistent others leaves apart watch command (Some (Files plan)) (of, at) =
     turns_last v w c d plan.core x consistent others leaves (λ same. apart (sym of.0 ∙ same)) plan.stage at.0
+seat_stays v w c d h x consistent others leaves apart watch command (Some (Collects plan)) (of, at) = omega arith
 seat_stays v w c d h x consistent others leaves apart watch command (Some (Slots plan)) (of, at) =
     same_most _ _ (calls_still v w plan.host x plan.doing others (λ same. apart (sym of.0 ∙ same)))
   where

@@ -7,11 +7,15 @@ use Rattle.vol_base.specs.declared.answer.Next.TheVariants as nexts
 use Rattle.vol_base.specs.declared.answer.Step.{Step}
 use Rattle.vol_base.specs.declared.command.Command.{Command}
 use Rattle.vol_base.specs.declared.command.Command.TheVariants as commands
+use Rattle.vol_base.specs.Packing.{Packing}
 use Rattle.vol_layout.specs.declared.geometry.Geometry.{Geometry}
+use Rattle.vol_layout.specs.declared.kind.Table.{Table}
 use Rattle.table_blocks.specs.Tables.{IsPackingOf}
 use Rattle.file_plans.specs.Bases.{IsCached}
 use Rattle.file_plans.specs.Went.{LeavesOthers}
 use Rattle.held_cache.specs.Kept.{Cache, ForgetsHost, IsFileTable, kept_at}
+use Rattle.host_facts.specs.Facts.Fact.{TableIs}
+use Rattle.host_facts.specs.Knows.{Knows}
 use Rattle.host_facts.specs.Others.{Others}
 use Rattle.host_facts.specs.Views.{WorldView}
 use Rattle.host_runs.specs.Notes.{Notes}
@@ -37,34 +41,43 @@ nothing_cached w c d h volume forgets = record {
       sym (forgets.forgotten t (subst (λ (g : Geometry). IsFileTable g t) (sym volume) there)) ∙ kept in absurd cc;
 }
 
+-- what a host knows of the tables of its files stays
+abbrev pub KeepsFileTables : ℕ → WorldView → WorldView → Type 0
+KeepsFileTables h v w = (t : Table) (p : Packing) → IsFileTable v.locks.geometry t → Knows v h (TableIs t p) → Knows w h (TableIs t p)
+
 module _ (v w : WorldView) (c d e : Cache) (h : ℕ) (others : Others h v w) (was : IsCached v c h) where
   geometry : w.locks.geometry ≡ v.locks.geometry
   geometry = others.locks.lasts.geometry
 
   -- it stays right where the host knows of its tables what it knew
-  stays : KeepsTables h v w → IsCached w c h
+  stays : KeepsFileTables h v w → IsCached w c h
   stays keeps = record {
     volume = was.volume ∙ sym geometry;
     known = λ t p there kept.
-        let known = was.known t p (subst (λ (g : Geometry). IsFileTable g t) geometry there) kept in
-        (keeps t p known.0, subst (λ (g : Geometry). IsPackingOf g t p) (sym geometry) known.1);
+        let of_file = subst (λ (g : Geometry). IsFileTable g t) geometry there in
+        let known = was.known t p of_file kept in
+        (keeps t p of_file known.0, subst (λ (g : Geometry). IsPackingOf g t p) (sym geometry) known.1);
   }
 
   forgotten : ForgetsHost c d h → (next : Next) → ForgetsBehind next h d e → IsCached w e h
   forgotten first (nexts.Answered (Cut by)) then = nothing_cached w d e h (first.volume ∙ was.volume ∙ sym geometry) then
   forgotten first next then = subst (λ (k : Cache). IsCached w k h) (sym then) (nothing_cached w c d h (was.volume ∙ sym geometry) first)
 
-  kept : d ≡ c → (next : Next) → (((by : CutBy) → next ≢ nexts.Answered (Cut by)) → KeepsTables h v w) → ForgetsBehind next h d e → IsCached w e h
+  pub kept : d ≡ c → (next : Next) → (((by : CutBy) → next ≢ nexts.Answered (Cut by)) → KeepsFileTables h v w) → ForgetsBehind next h d e
+      → IsCached w e h
   kept same (nexts.Answered (Cut by)) tables then =
       nothing_cached w d e h (ap (λ (k : Cache). k.volume) same ∙ was.volume ∙ sym geometry) then
   kept same next tables then = subst (λ (k : Cache). IsCached w k h) (sym (then ∙ same)) (stays (tables (λ by is. cc)))
 
+  of_files : KeepsTables h v w → KeepsFileTables h v w
+  of_files keeps = λ t p of_file known. keeps t p known
+
   -- behind a step on slots
   pub slots_cached : (command : Command) (step : Step) → ForgetsFor command h c d → TablesStay h v w command step
       → ForgetsBehind step.next h d e → IsCached w e h
-  slots_cached commands.Beat step first tables then = kept first step.next (tables tt) then
-  slots_cached (commands.Look of) step first tables then = kept first step.next (tables tt) then
-  slots_cached (commands.Recover of) step first tables then = kept first step.next (tables tt) then
+  slots_cached commands.Beat step first tables then = kept first step.next (λ uncut. of_files (tables tt uncut)) then
+  slots_cached (commands.Look of) step first tables then = kept first step.next (λ uncut. of_files (tables tt uncut)) then
+  slots_cached (commands.Recover of) step first tables then = kept first step.next (λ uncut. of_files (tables tt uncut)) then
   slots_cached command step first tables then = forgotten first step.next then
 
 -- what is kept for others stays

@@ -15,10 +15,11 @@ use Rattle.host_runs.specs.Awaited.{wanted}
 use Rattle.host_runs.specs.Notes.{Notes}
 use Rattle.recover_plan.specs.HostStays.{HostStays}
 use Rattle.recover_plan.specs.laws.HostStaysLaws.{host_stays}
+use Rattle.share_plans.specs.laws.GatheringStays.{collect_noted_still, collect_still}
 use Rattle.watch.specs.declared.watch.Look.{Look}
 use Rattle.cluster.specs.Seats.{PlanNotedOf, PlanStandsOf}
 use Rattle.cluster.specs.declared.plan.Plan.{Plan}
-use Rattle.cluster.specs.declared.plan.Plan.TheVariants.{Files, Slots}
+use Rattle.cluster.specs.declared.plan.Plan.TheVariants.{Collects, Files, Slots}
 
 module _ (v w : WorldView) (c d : Cache) (h x : ℕ) (consistent : Consistent v.locks) (others : Others x v w) (leaves : LeavesOthers x c d)
     (apart : h ≢ x) (below : h < v.locks.geometry.hosts) (watch : List (Option Look)) where
@@ -42,6 +43,13 @@ module _ (v w : WorldView) (c d : Cache) (h x : ℕ) (consistent : Consistent v.
     ),
   )
   stands_stay command (Some (Slots plan)) (of, at) = (of, (stays.plan watch plan.doing at.0, cached at.1))
+  stands_stay command (Some (Collects plan)) (of, at) = (
+    of,
+    (
+      collect_still v w plan.core x consistent others (λ same. apart (sym of.0 ∙ same)) plan.stage at.0,
+      record { watched = stays.watched watch at.1.watched; cached = cached at.1.cached },
+    ),
+  )
 
   pub noted_stays : (command : Command) (plan : Option Plan) (n : Notes) → PlanStandsOf command v c h watch plan
       → PlanNotedOf command v h watch plan n → PlanNotedOf command w h watch plan n
@@ -52,3 +60,7 @@ module _ (v w : WorldView) (c d : Cache) (h x : ℕ) (consistent : Consistent v.
     subst (λ (g : Geometry). wanted g command n.calls n.digests n.asks ≡ None) (sym geometry) waits,
   )
   noted_stays command (Some (Slots plan)) n stands noted = stays.agrees watch plan.doing n noted
+  noted_stays command (Some (Collects plan)) n (of, at) (noted, looks) = (
+    collect_noted_still v w plan.core geometry (others.locks.memories plan.core.host (λ same. apart (sym of.0 ∙ same))) plan.stage n noted,
+    looks,
+  )

@@ -34,7 +34,7 @@ use Rattle.cluster.specs.Dropping.{IsDroppedIn}
 use Rattle.cluster.specs.HostTurns.{IsHostTurn}
 use Rattle.file_plans.specs.laws.PlanLaws.{stands_at}
 use Rattle.cluster.specs.Plans.{IsPlanned, NotedBehind, PlanAt, PlanNoted, StandsBehind}
-use Rattle.cluster.specs.declared.plan.Plan.TheVariants.{Files, Slots}
+use Rattle.cluster.specs.declared.plan.Plan.TheVariants.{Collects, Files, Slots}
 use Rattle.cluster.specs.Seats.{HasMoved, IsLeft, MakesTurn, PlanNotedOf, PlanStandsOf, death_behind, is_last, joined_of, left_behind, less}
 use Rattle.cluster.specs.declared.plan.Plan.{Plan}
 use Rattle.cluster.specs.declared.seat.Seat.{Seat}
@@ -148,6 +148,7 @@ pub plan_volume : (v : WorldView) (c : Cache) (h : ℕ) (watch : List (Option Lo
     → c.volume ≡ v.locks.geometry
 plan_volume v c h watch (Files plan) at = (stands_at v c plan.core plan.stage at.0).cached.volume
 plan_volume v c h watch (Slots plan) at = at.1.volume
+plan_volume v c h watch (Collects plan) at = at.1.cached.volume
 
 module _ (command : Command) (h : ℕ) (v w : WorldView) (d : Cache) (old mid : Seat) (step : Step) (planned : IsPlanned h command)
     (moved : HasMoved command h v w d old mid step) where
