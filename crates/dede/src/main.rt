@@ -2,7 +2,7 @@
 #![tactic(auto)]
 
 use file_disk::FileDisk;
-use jobs::{Status, job_of, top};
+use jobs::{Job, Status, job_of, top};
 use std::alloc::Global;
 use std::env;
 use std::io::ErrorKind;
@@ -58,10 +58,12 @@ fn words(rt: &HostRuntime) -> Result<Vec<String>, NoMemory> {
     }
 }
 
-// The path of the volume's file. Words that are of no form have the empty path, so that they make no file.
+// The path of the volume's file. It is empty for words that are of no form, and for those of a job without a volume, so that
+// they make no file.
 fn volume(words: &[String]) -> &str {
     match (job_of(words), words.first()) {
+        (Some(Job::Gen(_)) | None, _) => "",
         (Some(_), Some(path)) => path.as_str(),
-        _ => "",
+        (Some(_), None) => "",
     }
 }

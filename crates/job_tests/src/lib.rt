@@ -4,7 +4,8 @@
 //! - `one_host`, `several_hosts`, `earlier_runs`, `damages`, `faults`: tables of cases. Each case is a device in memory and what is done with it,
 //!   one step after the other: a workload with each answer behind its line, a check, or a change of the device's blocks, counter or calls.
 //! - `deaths`: a command that is cut behind each of its device calls in turn, by the death of its host, and the recovery of that host.
-//! - `filling`: a volume that is written full. `collections`: a part of the arena that is emptied. `refusals`: words and texts without a run. `streams`: sources and sinks that fail.
+//! - `filling`: a volume that is written full. `collections`: a part of the arena that is emptied. `generations`: a generated
+//!   workload. `refusals`: words and texts without a run. `streams`: sources and sinks that fail.
 //! - `telling`: the texts of outcomes.
 #![tactic(auto)]
 
@@ -24,6 +25,8 @@ mod earlier_runs;
 mod faults;
 #[cfg(test)]
 mod filling;
+#[cfg(test)]
+mod generations;
 #[cfg(test)]
 mod one_host;
 #[cfg(test)]

@@ -13,7 +13,7 @@ fn refuse(rt: &impl Abort, alloc: Global, job: &Job, shows: &str) -> Result<(), 
     Ok(())
 }
 
-static WORDS: [&[&str]; 11] = [
+static WORDS: [&[&str]; 17] = [
     &["v", "sim", "16"],
     &["v", "sim", "0", "01"],
     &["v", "sim", "-1"],
@@ -21,6 +21,12 @@ static WORDS: [&[&str]; 11] = [
     &["v", "Sim"],
     &["v", "run"],
     &["v", "check", "0"],
+    &["v", "gen"],
+    &["v", "gen", "0"],
+    &["v", "gen", "01"],
+    &["v", "gen", "101"],
+    &["v", "gen", "1000"],
+    &["v", "gen", "1", "2"],
     &["-v", "sim"],
     &["", "check"],
     &["v"],

@@ -1,5 +1,5 @@
 -- What a cluster that was started and closed tells of the run of its workload.
-use Rattle.std.proofs.Common.{◌≡◌, ◌⊎◌, ◌≤◌, ◌<◌, ◌+◌, ◌∙◌, ℕ, All, List, [], Option, Some, None, IfSome, length, refl, sym, ap, subst, inl, inr, arith}
+use Rattle.std.proofs.Common.{◌≡◌, ◌⊎◌, ◌∙◌, List, Option, Some, None, IfSome, refl, sym, ap, subst, inl, inr}
 use Rattle.std.specs.Prelude.{IsSome, IsSomeAnd}
 use Rattle.std.proofs.lemmas.Option.{IfSome_then}
 use Rattle.vol_base.specs.declared.answer.Answer.{Answer}
@@ -9,8 +9,6 @@ use Rattle.shared_disk.specs.Seen.{DiskSeen}
 use Rattle.shared_disk.specs.State.{State, Told}
 use Rattle.plain_files.specs.Plain.{Plain}
 use Rattle.plain_files.specs.declared.history.Placed.{Placed}
-use Rattle.workload.specs.Workloads.{IsWorkload}
-use Rattle.workload.specs.declared.line.Line.{Line}
 use Rattle.workload.specs.declared.line.Workload.{Workload}
 use Rattle.image_view.specs.Files.{HasFiles}
 use Rattle.image_view.specs.Formatted.{IsFormatted}
@@ -20,7 +18,7 @@ use Rattle.histories.specs.Fit.{Fits}
 use Rattle.host_runs.specs.DeviceCalls.{OnImage}
 use Rattle.host_runs.specs.Notes.{no_notes}
 use Rattle.host_runs.specs.RunStates.{RunState, opening}
-use Rattle.host_runs.specs.Runs.{Run, RunCall}
+use Rattle.host_runs.specs.Runs.{Run}
 use Rattle.host_runs.specs.Tidy.{HasFreeSlots, IsReady}
 use Rattle.host_runs.specs.laws.DeviceLaws.{blocks-run}
 use Rattle.host_runs.specs.laws.FilesLaws.{IsLed, IsPlainOf}

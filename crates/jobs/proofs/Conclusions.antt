@@ -1,5 +1,5 @@
 -- What is decided behind a run, and behind an opening.
-use Rattle.std.proofs.Common.{◌≡◌, ◌≢◌, ◌⊎◌, ◌≤◌, ◌∙◌, ℕ, List, Option, Some, None, IfSome, refl, sym, ap, subst, inl, inr}
+use Rattle.std.proofs.Common.{◌≡◌, ◌≢◌, ℕ, List, Option, Some, None, IfSome, refl, sym, ap, subst, inl, inr}
 use Rattle.std.specs.Prelude.{◌↔◌, Err, Result}
 use Rattle.vol_base.specs.declared.answer.Answer.{Answer}
 use Rattle.shared_disk.specs.Calls.{last_counter}

@@ -3,6 +3,7 @@ mod ClusterLaws
 mod CommandLaws
 mod Conclusions
 mod FilesSince
+mod GenLaws
 mod ReadingLaws
 mod RunEnds
 mod RunLaws

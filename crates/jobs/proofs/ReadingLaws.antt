@@ -12,10 +12,9 @@ use Rattle.vol_io.specs.declared.reading.ReadNo.TheVariants as reads
 use Rattle.vol_io.specs.Reads.{ReadsFront, ReadsToEnd}
 use Rattle.workload.specs.declared.cause.WorkloadNo.TheVariants as causes
 use Rattle.workload.specs.declared.line.Line.{Line}
-use Rattle.workload.specs.declared.line.Workload.{Workload}
 use Rattle.workload.specs.Grammar.{most_bytes, workload_of}
 use Rattle.workload.specs.Ranges.{is_own}
-use Rattle.workload.specs.Workloads.{IsAllowed, IsWorkload}
+use Rattle.workload.specs.Workloads.{IsAllowed}
 use Rattle.cluster.specs.Agreements.{IsKnownLine}
 use Rattle.cluster.specs.Seats.{IsKnown}
 use Rattle.jobs.specs.declared.outcome.Outcome.TheVariants as outcomes

@@ -1,6 +1,5 @@
 -- A schedule that was played to its end on a cluster that has started: the run of the workload.
-use Rattle.std.proofs.Common.{◌≡◌, ◌≤◌, ◌<◌, ◌+◌, ◌∙◌, ℕ, All, List, [], Option, Some, None, IfSome, length, get_or, refl, sym, ap, subst, arith}
-use Rattle.std.specs.Prelude.{IsSome}
+use Rattle.std.proofs.Common.{◌≡◌, ◌≤◌, ◌<◌, ◌+◌, ℕ, All, List, Option, length, get_or, refl, sym, subst, arith}
 use Rattle.std.proofs.lemmas.Option.{slice_get-get_or, slice_get_within}
 use Rattle.vol_base.specs.Faults.{Rose}
 use Rattle.shared_disk.specs.Seen.{DiskSeen}
@@ -12,25 +11,21 @@ use Rattle.workload.specs.declared.line.Workload.{Workload}
 use Rattle.image_view.specs.Valid.{IsValid}
 use Rattle.host_runs.specs.DeviceCalls.{OnImage}
 use Rattle.histories.specs.Fit.{Fits}
-use Rattle.histories.specs.Lines.{IsLine}
-use Rattle.histories.specs.Phases.{ArePhased}
 use Rattle.histories.specs.laws.PhaseLaws.{phased-workload, within-workload}
 use Rattle.histories.specs.laws.PushLaws.{all_at}
 use Rattle.host_runs.specs.Notes.{Notes}
 use Rattle.host_runs.specs.RunStates.{RunState, opening}
 use Rattle.host_runs.specs.Runs.{AreIdle, Run, RunCall}
-use Rattle.host_runs.specs.Tidy.{IsComplete, IsTidyWork}
+use Rattle.host_runs.specs.Tidy.{IsTidyWork}
 use Rattle.host_runs.specs.laws.AnsweredLaws.{all-answered}
 use Rattle.host_runs.specs.laws.FitLaws.{orderly-run}
 use Rattle.host_runs.specs.laws.TidyLaws.{tidy-complete}
-use Rattle.vol_layout.specs.declared.geometry.Geometry.{Geometry}
-use Rattle.vol_layout.specs.Ranges.{IsGeometry}
 use Rattle.cluster.specs.Runs.{Facts, IsIdle, SameStart}
 use Rattle.cluster.specs.Starts.{HasStarted}
-use Rattle.cluster.specs.Views.{ClusterView, PartsView, disk_of, state_of}
+use Rattle.cluster.specs.Views.{ClusterView, disk_of, state_of}
 use Rattle.schedule.specs.Plays.{HasPlayed, IsPlayed, Move, Place}
 use Rattle.schedule.specs.laws.PlayLaws.{played-run}
-use Rattle.jobs.specs.Runs.{HasEnded, IsBy, IsRunOf, IsTidyRun, Opens, Schedule, ByWords}
+use Rattle.jobs.specs.Runs.{HasEnded, IsBy, IsRunOf, IsTidyRun, Schedule, ByWords}
 use Rattle.jobs.proofs.ClusterLaws.{closed_valid, opens_of, owed_of, ready_of, same_workload}
 
 -- a count that did not rise since before did not rise since

@@ -1,20 +1,19 @@
 -- When which outcome of a run comes.
-use Rattle.std.proofs.Common.{◌≡◌, ◌≢◌, ◌⊎◌, ◌≤◌, ◌<◌, ◌+◌, ◌^◌, ◌∙◌, ℕ, List, [], Option, Some, None, length, refl, sym, ap, subst, inl, inr, arith}
+use Rattle.std.proofs.Common.{◌≡◌, ◌≢◌, ◌⊎◌, ◌≤◌, ◌+◌, ◌∙◌, ℕ, List, [], Option, Some, None, refl, sym, ap, subst, inl, inr, arith}
 use Rattle.std.specs.Prelude.{IfSome, IsNone, IsSomeAnd}
 use Rattle.std.proofs.lemmas.Bool.{false≢true}
 use Rattle.vol_base.specs.Faults.{Rose}
 use Rattle.vol_layout.specs.declared.geometry.Geometry.{Geometry}
 use Rattle.vol_layout.specs.Regions.{total}
-use Rattle.shared_disk.specs.Calls.{last_counter}
 use Rattle.shared_disk.specs.Prefixes.{Prefixes}
 use Rattle.shared_disk.specs.Seen.{DiskSeen}
 use Rattle.shared_disk.specs.State.{State, Told}
 use Rattle.plain_files.specs.Plain.{Plain}
-use Rattle.histories.specs.Fronts.{AreFrontsUpTo, IsImageUpTo}
+use Rattle.histories.specs.Fronts.{AreFrontsUpTo}
 use Rattle.histories.specs.LineCalls.{calls_of}
 use Rattle.workload.specs.declared.line.Workload.{Workload}
 use Rattle.image_view.specs.laws.GeometryLaws.{IsVolume-valid}
-use Rattle.image_view.specs.Images.{Image, IsBlank}
+use Rattle.image_view.specs.Images.{IsBlank}
 use Rattle.image_view.specs.Valid.{IsValid}
 use Rattle.image_view.specs.laws.ValidLaws.{IsValid-later}
 use Rattle.volume_faults.specs.declared.fault.Fault.{Fault}

@@ -10,7 +10,6 @@ use Rattle.volume_opening.specs.declared.open_no.OpenNo.{OpenNo}
 use Rattle.volume_opening.specs.declared.open_no.OpenNo.TheVariants as openings
 use Rattle.workload.specs.declared.line.Workload.{Workload}
 use Rattle.workload.specs.Grammar.{Refusal, most_bytes}
-use Rattle.host_runs.specs.RunStates.{RunState, opening}
 use Rattle.jobs.specs.declared.outcome.AfterRun.TheVariants as after_runs
 use Rattle.jobs.specs.declared.outcome.Outcome.{Outcome}
 use Rattle.jobs.specs.declared.outcome.Outcome.TheVariants as outcomes
@@ -19,7 +18,7 @@ use Rattle.jobs.specs.declared.status.Status.TheVariants as statuses
 use Rattle.jobs.specs.Built.{built_workload_of}
 use Rattle.jobs.specs.Endings.{Ends, IsSmooth, IsTold, SinkSeen}
 use Rattle.jobs.specs.Outcomes.{outcome_text, status_of}
-use Rattle.jobs.specs.Runs.{HasSomeRun, IsRefusable, IsRunOf, IsUnfit, IsUnopened, RunDecides, Schedule, unopened}
+use Rattle.jobs.specs.Runs.{HasSomeRun, IsRefusable, IsUnfit, IsUnopened, RunDecides, Schedule, unopened}
 use Rattle.jobs.specs.Seen.{Seen}
 use Rattle.jobs.specs.Simulations.{CauseOf, GivesText, IsExact, IsReadyToRun, IsRun, IsYielding, LeavesImages, RefusesDevice, SimDecides, SimEnds}
 use Rattle.jobs.specs.Sources.{StopsReading, TakesAtMost}

@@ -1,5 +1,5 @@
 -- Hosts that words name, whatever the words are made of.
-use Rattle.std.proofs.Common.{◌≡◌, ◌≤◌, ◌-◌, ℕ, List, [], ◌∷◌, Option, Some, None, refl, ap, sym, ◌∙◌, map}
+use Rattle.std.proofs.Common.{◌≡◌, ◌≤◌, ◌-◌, ℕ, List, [], ◌∷◌, Option, refl, ap, sym, ◌∙◌, map}
 use Rattle.std.specs.Prelude.{Bool, drop, filter_map, is_some, length, take}
 use Rattle.std.specs.List.{cons_option, drop-map, list_all}
 use Rattle.std.proofs.lemmas.Bool.{le-leb}

@@ -7,9 +7,10 @@ use Rattle.jobs.specs.declared.outcome.Outcome.TheVariants as outcomes
 use Rattle.jobs.specs.declared.status.Status.{Status}
 use Rattle.jobs.specs.declared.status.Status.TheVariants as statuses
 use Rattle.jobs.specs.declared.words.Job.{Job}
-use Rattle.jobs.specs.declared.words.Job.TheVariants.{Sim, Run, Check}
+use Rattle.jobs.specs.declared.words.Job.TheVariants.{Sim, Run, Check, Gen}
 use Rattle.jobs.specs.Checks.{AreVisits, CheckDecides, IsCheckStatus, IsReady, PrintsRefusal, PrintsValid}
 use Rattle.jobs.specs.Endings.{Ends, HasFailed, IsSmooth, IsTold, SinkSeen}
+use Rattle.jobs.specs.Generations.{GenEnds}
 use Rattle.jobs.specs.Outcomes.{outcome_text}
 use Rattle.jobs.specs.Runs.{ByThreads, ByWords}
 use Rattle.jobs.specs.Seen.{Seen}
@@ -39,6 +40,12 @@ pub record ChecksAlone (before after : Seen) (status : Status) : Type 0 where
   pub source : after.source ≡ before.source
   pub check : CheckEnds before.disk after.disk before.sink after.sink status
 
+-- words that ask for a generated workload: source and device are untouched
+pub record Generates (rounds : ℕ) (before after : Seen) (status : Status) : Type 0 where
+  pub source : after.source ≡ before.source
+  pub disk : after.disk ≡ before.disk
+  pub gen : GenEnds rounds before.sink after.sink status
+
 -- the statuses of words that are of no form
 abbrev pub IsUsageStatus : Status → Type 0
 IsUsageStatus statuses.Ok = ⊥
@@ -66,6 +73,7 @@ JobEnds None hosts = UsageEnds
 JobEnds (Some Sim) hosts = SimEnds (ByWords hosts)
 JobEnds (Some Run) hosts = UsageEnds
 JobEnds (Some Check) hosts = ChecksAlone
+JobEnds (Some (Gen rounds)) hosts = Generates rounds
 
 -- by the words behind its name
 abbrev pub CommandEnds : List (List ℕ) → Seen → Seen → Status → Type 0

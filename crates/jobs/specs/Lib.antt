@@ -2,6 +2,7 @@ pub mod Built
 pub mod Checks
 pub mod Commands
 pub mod Endings
+pub mod Generations
 pub mod Outcomes
 pub mod Readings
 pub mod Runs

@@ -18,7 +18,7 @@ use Rattle.jobs.specs.declared.status.Status.TheVariants as statuses
 use Rattle.jobs.specs.Built.{built_workload_of}
 use Rattle.jobs.specs.Endings.{HasFailed, IsSmooth}
 use Rattle.jobs.specs.Outcomes.{outcome_text, status_of, survey_status, survey_text, workload_line}
-use Rattle.jobs.specs.Runs.{HasSomeRun, IsDone, IsFitFor, IsOwed, IsRefusable, IsUnfit, IsUnsurveyed, RunDecides, Schedule, unopened}
+use Rattle.jobs.specs.Runs.{HasSomeRun, IsDone, IsFitFor, IsRefusable, IsUnfit, IsUnsurveyed, RunDecides, Schedule, unopened}
 use Rattle.jobs.specs.Seen.{Seen}
 use Rattle.jobs.specs.Sources.{IsRead, IsRefusedText, SourceSeen, StopsReading, TakesAtMost}
 

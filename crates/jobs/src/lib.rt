@@ -4,7 +4,7 @@
 //! # What is proved
 //!
 //! - `command` and `top` do the job that the words behind the program's name ask for. Each has one clause, by the words (`job_of` and
-//!   `hosts_of`, exact): `SimEnds`, `ChecksAlone` or `UsageEnds`. `CommandEnds`, of `command`, has `UsageEnds` for `run`, since that job needs
+//!   `hosts_of`, exact): `SimEnds`, `ChecksAlone`, `Generates` or `UsageEnds`. `CommandEnds`, of `command`, has `UsageEnds` for `run`, since that job needs
 //!   threads; `TopEnds`, of `top`, has `SimEnds` of threads there, and else the same.
 //! - `SimEnds` of a schedule, of `sim` and of `run`: each status has its cause (`CauseOf`, one line a status):
 //!   - Ok: the source was read to its end, and its text is that of a workload each line of which is built; the sink took exactly the report
@@ -45,6 +45,9 @@
 //!     another, of which the last may have been broken off (`visits`).
 //!   - A valid volume, a counter that two registrations do not bring to its end, no fault of the device and the sink, and a sink that
 //!     takes something of each piece that is not empty: Ok or Memory.
+//! - `GenEnds`, of `generate`: at Ok the sink took exactly the generated workload of so many rounds (`gen_load`); WriteFault comes only where the
+//!   sink failed or took nothing; no other status comes but Memory, and none but Ok and Memory where the sink serves. Source and device are
+//!   untouched (`Generates`).
 //! - `UsageEnds`: words of no form leave source and device untouched, and the sink has the usage line or a front of it.
 //! - `tell`: the whole text of the outcome at the outcome's status; or a front of it and WriteFault, with its cause; or nothing and
 //!   Memory. `Status::code`, `Outcome::status`, `AfterRun::status`: exact.
@@ -60,6 +63,7 @@
 mod checking;
 mod commands;
 mod entry;
+mod generating;
 mod outcome;
 mod reading;
 mod running;
@@ -73,6 +77,7 @@ mod words;
 pub use checking::check;
 pub use commands::command;
 pub use entry::top;
+pub use generating::generate;
 pub use outcome::{AfterRun, Outcome, VolumeNo};
 pub use simulating::sim;
 pub use status::Status;

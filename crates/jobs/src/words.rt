@@ -1,7 +1,7 @@
 // The words of the command line.
-ghost use Rattle.std.specs.Prelude.{◌≡◌, ◌<◌, IfOk, filter_map, is_some, map, string_bytes};
+ghost use Rattle.std.specs.Prelude.{◌≡◌, ◌<◌, ◌≤◌, ◌∷◌, [], IfOk, IfSome, filter_map, is_some, map, string_bytes};
 ghost use Rattle.std.specs.List.{list_all};
-ghost use Rattle.jobs.specs.Words.{digit_of, host_of, hosts_of, is_plain, is_schedule, job_named, job_of};
+ghost use Rattle.jobs.specs.Words.{HasRounds, digit_of, generation_of, host_of, hosts_of, is_plain, is_schedule, job_named, job_of, rounds_of};
 
 use std::alloc::Global;
 use vol_base::{HostNo, NoMemory};
@@ -15,16 +15,19 @@ pub enum Job {
     Run,
     /// Checks the volume.
     Check,
+    /// Writes the generated workload of so many rounds, from 1 to 100.
+    Gen(u32),
 }
 
 // The most words of a schedule.
 const MOST_HOSTS: usize = 65_536;
 
-/// The job of the words behind the program's name: `VOLUME sim HOST..`, `VOLUME run` or `VOLUME check`, where VOLUME is not
-/// empty and does not begin with `-`, and each HOST is a number from `0` to `15`. For any other words it
-/// answers `None`.
+/// The job of the words behind the program's name: `VOLUME sim HOST..`, `VOLUME run`, `VOLUME check` or `VOLUME gen N`, where
+/// VOLUME is not empty and does not begin with `-`, each HOST is a number from `0` to `15`, and N one from `1` to `100`. For any
+/// other words it answers `None`.
 pub fn job_of(words: &[String]) -> Option<Job>
-    ensures { result ≡ job_of (map string_bytes words.now) }
+    ensures job { result ≡ job_of (map string_bytes words.now) }
+    ensures rounds { IfSome result HasRounds }
 {
     match words {
         [volume, name, ..] if is_plain(volume.as_str()) => job_named(name.as_str(), &words[2..]),
@@ -62,7 +65,8 @@ fn is_plain(word: &str) -> bool
 }
 
 fn job_named(name: &str, rest: &[String]) -> Option<Job>
-    ensures { result ≡ job_named name.now (map string_bytes rest.now) }
+    ensures job { result ≡ job_named name.now (map string_bytes rest.now) }
+    ensures rounds { IfSome result HasRounds }
 {
     if name == "sim" && is_schedule(rest) {
         Some(Job::Sim)
@@ -70,6 +74,56 @@ fn job_named(name: &str, rest: &[String]) -> Option<Job>
         Some(Job::Run)
     } else if name == "check" && rest.is_empty() {
         Some(Job::Check)
+    } else if name == "gen" {
+        generation_of(rest)
+    } else {
+        None
+    }
+}
+
+fn generation_of(words: &[String]) -> Option<Job>
+    ensures job { result ≡ generation_of (map string_bytes words.now) }
+    ensures rounds { IfSome result HasRounds }
+{
+    match words {
+        [word] => match rounds_of(word.as_str()) {
+            Some(rounds) => Some(Job::Gen(rounds)),
+            None => None,
+        },
+        _ => None,
+    }
+}
+
+// The rounds that a word names.
+fn rounds_of(word: &str) -> Option<u32>
+    ensures rounds { result ≡ rounds_of word.now }
+    ensures range { IfSome result (λ rounds. (1 ≤ rounds) × (rounds ≤ 100)) }
+{
+    match word.as_bytes() {
+        [ones] => one_digit(*ones),
+        [tens, ones] => two_digits(*tens, *ones),
+        [b'1', b'0', b'0'] => Some(100),
+        _ => None,
+    }
+}
+
+fn one_digit(ones: u8) -> Option<u32>
+    ensures rounds { result ≡ rounds_of (ones ∷ []) }
+    ensures range { IfSome result (λ rounds. (1 ≤ rounds) × (rounds ≤ 100)) }
+{
+    if b'1' <= ones && ones <= b'9' {
+        Some(u32::from(ones - b'0'))
+    } else {
+        None
+    }
+}
+
+fn two_digits(tens: u8, ones: u8) -> Option<u32>
+    ensures rounds { result ≡ rounds_of (tens ∷ ones ∷ []) }
+    ensures range { IfSome result (λ rounds. (1 ≤ rounds) × (rounds ≤ 100)) }
+{
+    if b'1' <= tens && tens <= b'9' && b'0' <= ones && ones <= b'9' {
+        Some(10 * u32::from(tens - b'0') + u32::from(ones - b'0'))
     } else {
         None
     }

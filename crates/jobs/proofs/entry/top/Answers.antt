@@ -8,6 +8,6 @@ pub returns-in-Some-Run : goal.returns-in-Some-Run
 returns-in-Some-Run g c = record {
   ends =
       let words = map string_bytes c.args.words.now in
-      program_ends (job_of words) (Some Run) (hosts_of words) _ _ _ (sym c.job_of.ensures ∙ c.in-Some-Run.is ∙ ap Some c.in-Some-Run.field-0-is)
+      program_ends (job_of words) (Some Run) (hosts_of words) _ _ _ (sym c.job_of.ensures.job ∙ c.in-Some-Run.is ∙ ap Some c.in-Some-Run.field-0-is)
       c.run.ensures.ends;
 }

@@ -1,5 +1,4 @@
-use Rattle.std.proofs.Common.{List, None, ap, sym, ◌∙◌}
-use Rattle.workload.specs.declared.line.Line.{Line}
+use Rattle.std.proofs.Common.{ap, sym, ◌∙◌}
 use Rattle.jobs.specs.Built.{first_unbuilt}
 use Rattle.jobs.proofs.ReadingLaws.{all_known}
 use Rattle.jobs.proofs.reading.built_workload.Goals as goal
