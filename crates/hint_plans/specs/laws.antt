@@ -1,0 +1,14 @@
+pub mod BeginLaws
+pub mod EndLaws
+pub mod FirstLaws
+pub mod HintCuts
+pub mod HostLaws
+pub mod LogLaws
+pub mod LookedLaws
+pub mod NextLaws
+pub mod ScanBlocks
+pub mod ScanLaws
+pub mod ScanSteps
+pub mod ScribbleLaws
+pub mod SeenLogs
+pub mod StillLaws

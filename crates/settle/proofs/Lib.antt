@@ -1,0 +1,12 @@
+mod CandidateLaws
+mod CompareLaws
+mod EndLaws
+mod FinalLaws
+mod GatherLaws
+mod MoveLaws
+mod PlaceLaws
+mod ReadLaws
+mod RowLaws
+mod RunLaws
+mod SeekLaws
+mod ToldLaws

@@ -1,0 +1,7 @@
+use Rattle.settle.proofs.CompareLaws.{told-read}
+use Rattle.settle.proofs.reading.read_block.Goals as goal
+
+pub returns-in-Ok-clause-read : goal.returns-in-Ok-clause-read
+returns-in-Ok-clause-read g c =
+    told-read (g.L.Lone.volume c.args.lone.now) c.args.geometry (g.L.Lone.told c.args.lone.now) c.args.file c.args.index c.in-Ok.reply c.block_in.result c.requires.volume
+    c.requires.file c.requires.sound c.in-Ok.ensures.reply c.block_in.ensures

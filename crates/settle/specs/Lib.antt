@@ -1,0 +1,12 @@
+pub mod Added
+pub mod Contents
+pub mod Distinct
+pub mod Gathered
+pub mod Links
+pub mod Moves
+pub mod Reads
+pub mod Rows
+pub mod Sound
+pub mod Stops
+pub mod Totals
+pub mod laws
