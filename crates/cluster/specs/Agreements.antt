@@ -61,7 +61,7 @@ pub record IsSound (v : PartsView) : Type 0 where
 -- joined, and any other one in a command is
 pub record IsStanding (v : PartsView) : Type 0 where
   pub stands : (h : ℕ) → h < v.workload.geometry.hosts
-      → PlanStandsOf (at_command v h) v.world v.cache h (seat_at v h).watch (seat_at v h).plan
+      → PlanStandsOf (at_command v h) v.world v.cache h (seat_at v h).carried (seat_at v h).plan
   pub busy : (h : ℕ) → h < v.workload.geometry.hosts → is_some (seat_at v h).plan ≡ true → IsSome (line_of v h)
   pub joined : (h : ℕ) → h < v.workload.geometry.hosts → is_some (seat_at v h).plan ≡ true
       → is_joined v.workload.lines v.ledger.answers h ≡ joined_in (at_command v h)
@@ -69,7 +69,7 @@ pub record IsStanding (v : PartsView) : Type 0 where
 -- the notes of each host agree with its seat
 pub record Agree (v : PartsView) (notes : ℕ → Notes) : Type 0 where
   pub noted : (h : ℕ) → h < v.workload.geometry.hosts
-      → PlanNotedOf (at_command v h) v.world h (seat_at v h).watch (seat_at v h).plan (notes h)
+      → PlanNotedOf (at_command v h) v.world h (seat_at v h).carried (seat_at v h).plan (notes h)
   pub left : (h : ℕ) → h < v.workload.geometry.hosts
       → IsLeft (standing_death v.workload.lines v.ledger.answers h) (notes h).dying (seat_at v h).left
 

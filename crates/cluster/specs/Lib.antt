@@ -1,7 +1,10 @@
 pub mod Agreements
+pub mod Asking
 pub mod Budgets
+pub mod Carries
 pub mod Dropping
 pub mod Events
+pub mod Hands
 pub mod HostTurns
 pub mod LinesLeft
 pub mod Origins

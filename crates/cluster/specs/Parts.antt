@@ -1,10 +1,9 @@
 -- What each call of the parts does.
-use Rattle.std.specs.Prelude.{◌≡◌, ◌≢◌, ◌+◌, ◌++◌, ◌<◌, ◌≤◌, ◌&&◌, ◌==◌, ℕ, IsSome, IsTrue, List, None, Option, Some, is_none, is_some, slice_get, slice_set, if◌then◌else◌}
-use Rattle.vol_base.specs.NumberBlock.{number_block}
+use Rattle.std.specs.Prelude.{◌≡◌, ◌≢◌, ◌+◌, ◌++◌, ◌<◌, ◌≤◌, ◌==◌, ℕ, IsSome, IsTrue, List, None, Option, Some, is_some, slice_get, slice_set, if◌then◌else◌}
 use Rattle.vol_base.specs.declared.answer.Answer.{Answer}
 use Rattle.vol_base.specs.declared.block.Block.{Block}
 use Rattle.vol_base.specs.declared.command.Command.{Command}
-use Rattle.vol_base.specs.declared.command.Command.TheVariants.{Write}
+use Rattle.vol_base.specs.declared.block.Digest.{Digest}
 use Rattle.workload.specs.declared.line.Line.{Line}
 use Rattle.file_plans.specs.Went.{LeavesOthers}
 use Rattle.held_cache.specs.Kept.{Cache}
@@ -15,19 +14,16 @@ use Rattle.host_runs.specs.RunStates.{answered, entry_at, events_at}
 use Rattle.lock_store.specs.Views.{host_at}
 use Rattle.host_runs.specs.Notes.{Notes}
 use Rattle.workload.specs.Ranges.{is_in_range}
-use Rattle.file_plans.specs.declared.plan.FilePlan.{FilePlan}
-use Rattle.file_plans.specs.declared.stage.Stage.TheVariants.{Asks, Begins}
-use Rattle.cluster.specs.Plans.{IsBegun}
-use Rattle.cluster.specs.declared.plan.Plan.TheVariants.{Files}
+use Rattle.cluster.specs.Asking.{asked_with}
+use Rattle.cluster.specs.Hands.{IsHandedIn}
 use Rattle.cluster.specs.Seats.{IsKnown, MakesTurn, PlanNotedOf, PlanStandsOf}
 use Rattle.cluster.specs.Views.{LedgerView, PartsView, line_of, seat_at}
 use Rattle.cluster.specs.declared.seat.Done.{Done}
 use Rattle.cluster.specs.declared.seat.Seat.{Seat}
 
--- the block whose digest a joined host waits for between two commands: that of a `write`
+-- the block whose digest a host waits for, which is at this command
 abbrev pub asked_by : PartsView → ℕ → Command → Option Block
-asked_by v h (Write f i n) = if is_none (seat_at v h).plan && is_some (host_at v.world.locks h).key then Some (number_block n) else None
-asked_by v h command = None
+asked_by v h command = asked_with v.workload.geometry (seat_at v h).plan (is_some (host_at v.world.locks h).key) command
 
 abbrev pub asked_at : PartsView → ℕ → Option Line → Option Block
 asked_at v h None = None
@@ -97,8 +93,8 @@ of_phase lines phase position = if_phase phase position (slice_get lines positio
 pub record MayStep (v : PartsView) (h : ℕ) (command : Command) : Type 0 where
   pub known : IsKnown h command
   pub range : IsTrue (is_in_range v.workload.geometry command)
-  pub stands : PlanStandsOf command v.world v.cache h (seat_at v h).watch (seat_at v h).plan
-  pub noted : (n : Notes) × PlanNotedOf command v.world h (seat_at v h).watch (seat_at v h).plan n
+  pub stands : PlanStandsOf command v.world v.cache h (seat_at v h).carried (seat_at v h).plan
+  pub noted : (n : Notes) × PlanNotedOf command v.world h (seat_at v h).carried (seat_at v h).plan n
   pub asks : asked_by v h command ≡ None
 
 -- its seat made it
@@ -113,21 +109,8 @@ pub record IsNoted (v : PartsView) (h position : ℕ) (done : Done) (u : PartsVi
   pub from : IsSome done.ended → IsOpenFrom v.workload.lines (position + 1) h head
   pub is : u ≡ record v { ledger = noted_in position done v.ledger; heads = opened h done.ended head v.heads }
 
-abbrev pub IsWrite : Command → Type 0
-IsWrite (Write f i n) = Unit {0}
-IsWrite command = ⊥
-
--- a `write` begins, whose digest was handed in: its plan, made at its beginning, asks for no digest any more
-pub record IsHandedIn (h : ℕ) (command : Command) (old new : Seat) : Type 0 where
-  pub before : FilePlan
-  pub after : FilePlan
-  pub begun : IsBegun h command (Files before)
-  pub asks : before.stage ≡ Asks
-  pub core : after.core ≡ before.core
-  pub begins : after.stage ≡ Begins
-  pub is : new ≡ record old { plan = Some (Files after) }
-
-pub record HasBegun (v : PartsView) (h : ℕ) (command : Command) (u : PartsView) : Type 0 where
+-- a host took a digest
+pub record HasTaken (v : PartsView) (h : ℕ) (command : Command) (digest : Digest) (u : PartsView) : Type 0 where
   pub seat : Seat
-  pub handed : IsHandedIn h command (seat_at v h) seat
+  pub handed : IsHandedIn h command digest (seat_at v h) seat
   pub is : u ≡ record v { seats = slice_set v.seats h seat }

@@ -8,6 +8,7 @@ use Rattle.vol_base.specs.declared.answer.Turn.TheVariants.{Answered, Idle, Move
 use Rattle.vol_base.specs.declared.block.Block.{Block}
 use Rattle.file_plans.specs.Turns.{turns_at}
 use Rattle.held_cache.specs.Kept.{Cache}
+use Rattle.hint_plans.specs.Plans as hints
 use Rattle.host_facts.specs.Views.{WorldView}
 use Rattle.recover_plan.specs.CallsLeft.{calls_left}
 use Rattle.share_plans.specs.Gatherings.{left}
@@ -15,13 +16,14 @@ use Rattle.cluster.specs.LinesLeft.{lines_left}
 use Rattle.cluster.specs.Parts.{asked_of}
 use Rattle.cluster.specs.Views.{PartsView, seat_at}
 use Rattle.cluster.specs.declared.plan.Plan.{Plan}
-use Rattle.cluster.specs.declared.plan.Plan.TheVariants.{Collects, Files, Slots}
+use Rattle.cluster.specs.declared.plan.Plan.TheVariants.{Collects, Files, Hints, Slots}
 
 -- of a plan: its steps, and the turn in which a digest is handed in
 abbrev pub plan_left : WorldView → Cache → Plan → ℕ
 plan_left v c (Files plan) = turns_at v c plan.core plan.stage
 plan_left v c (Slots plan) = calls_left v plan.host plan.doing
 plan_left v c (Collects plan) = left plan.core plan.stage
+plan_left v c (Hints plan) = hints.left v.locks.geometry plan.doing
 
 -- of a host: none where no command is under way
 abbrev pub seat_left : WorldView → Cache → Option Plan → ℕ
@@ -79,10 +81,10 @@ IsSoonerFor v h (Answered answer) u = HasEnded v h u
 IsSoonerFor v h (Work block) u = u ≡ v
 IsSoonerFor v h Idle u = u ≡ v
 
--- a digest was handed in, where the host waited for one: its command begins
+-- a digest was handed in, where the host waited for one: its command begins, or goes on
 abbrev pub IsSuppliedFor : Option Block → PartsView → ℕ → PartsView → Type 0
 IsSuppliedFor None v h u = u ≡ v
-IsSuppliedFor (Some block) v h u = ((seat_at v h).plan ≡ None) × HasGoneOn v h u
+IsSuppliedFor (Some block) v h u = (asked_of u h ≡ None) × HasGoneOn v h u
 
 abbrev pub IsSuppliedTurns : PartsView → ℕ → PartsView → Type 0
 IsSuppliedTurns v h u = IsSuppliedFor (asked_of v h) v h u

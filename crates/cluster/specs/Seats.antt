@@ -1,5 +1,5 @@
 -- A host as the cluster keeps it: what stands between two of its turns, and what one turn does.
-use Rattle.std.specs.Prelude.{◌≡◌, ◌⊎◌, ◌+◌, ◌-◌, ◌<◌, ◌==◌, ℕ, Bool, true, false, List, None, Option, Some, is_none, is_some, if◌then◌else◌}
+use Rattle.std.specs.Prelude.{◌≡◌, ◌⊎◌, ◌+◌, ◌-◌, ◌<◌, ◌==◌, ℕ, Bool, true, false, None, Option, Some, is_none, is_some, if◌then◌else◌}
 use Rattle.vol_base.specs.declared.answer.Answer.{Answer}
 use Rattle.vol_base.specs.declared.answer.Answer.TheVariants.{Cut, Down, Fine, Up}
 use Rattle.vol_base.specs.declared.answer.Step.{Step}
@@ -14,10 +14,9 @@ use Rattle.host_runs.specs.Notes.{Notes}
 use Rattle.lock_store.specs.Memories.{dropped}
 use Rattle.lock_store.specs.Views.{host_at}
 use Rattle.plan_parts.specs.Steps.{IsReady, ended_of}
-use Rattle.recover_plan.specs.PlanSteps.{RestsWith}
-use Rattle.watch.specs.declared.watch.Look.{Look}
 use Rattle.cluster.specs.HostTurns.{IsHostTurn}
-use Rattle.cluster.specs.Plans.{HasStepped, IsOf, IsPlanned, IsResting, PlanAt, PlanNoted}
+use Rattle.cluster.specs.declared.carried.Carried.{Carried}
+use Rattle.cluster.specs.Plans.{HasStepped, IsOf, IsPlanned, IsResting, PlanAt, PlanNoted, RestsWith}
 use Rattle.cluster.specs.declared.plan.Plan.{Plan}
 use Rattle.cluster.specs.declared.seat.Done.{Done}
 use Rattle.cluster.specs.declared.seat.Seat.{Seat}
@@ -38,9 +37,9 @@ joined_of v h command None = is_some (host_at v.locks h).key
 joined_of v h command (Some plan) = joined_in command
 
 -- what stands between two turns
-abbrev pub PlanStandsOf : Command → WorldView → Cache → ℕ → List (Option Look) → Option Plan → Type 0
-PlanStandsOf command v c h watch None = IsResting v c h watch
-PlanStandsOf command v c h watch (Some plan) = IsOf h command plan × PlanAt v c h watch plan
+abbrev pub PlanStandsOf : Command → WorldView → Cache → ℕ → Carried → Option Plan → Type 0
+PlanStandsOf command v c h carried None = IsResting v c h carried
+PlanStandsOf command v c h carried (Some plan) = IsOf h command plan × PlanAt v c h carried plan
 
 -- the answer of a command that comes without a plan: `up` and `down` by whether the host is joined, and that of a `die`
 abbrev pub at_once : Command → Bool → Option Answer
@@ -51,9 +50,9 @@ at_once (commands.Die calls) true = Some Fine
 at_once command true = None
 
 -- what its notes agree with
-abbrev pub PlanNotedOf : Command → WorldView → ℕ → List (Option Look) → Option Plan → Notes → Type 0
-PlanNotedOf command v h watch None n = RestsWith h v watch n
-PlanNotedOf command v h watch (Some plan) n = PlanNoted command v h watch plan n
+abbrev pub PlanNotedOf : Command → WorldView → ℕ → Carried → Option Plan → Notes → Type 0
+PlanNotedOf command v h carried None n = RestsWith h v carried n
+PlanNotedOf command v h carried (Some plan) n = PlanNoted command v h carried plan n
 
 -- the calls that are left until the host dies: as many as its standing death has, but those that it made since
 abbrev pub IsLeft : Option ℕ → ℕ → Option ℕ → Type 0
@@ -79,20 +78,20 @@ pub record HasMoved (command : Command) (h : ℕ) (v w : WorldView) (d : Cache) 
   pub before : Plan
   pub after : Plan
   pub was : old.plan ≡ Some before
-  pub stepped : HasStepped command h v w d old.watch new.watch before after step
+  pub stepped : HasStepped command h v w d old.carried new.carried before after step
   pub is : new.plan ≡ (if is_none (ended_of step.next) then Some after else None)
   pub left : new.left ≡ old.left
 
 -- one turn: whatever the notes were that agreed with the seat, it is a turn of the host, and the notes behind it agree again
 pub record MakesTurn (command : Command) (h : ℕ) (v w : WorldView) (d : Cache) (old new : Seat) (done : Done) : Type 0 where
   pub made : Option Event
-  pub stands : PlanStandsOf command w d h new.watch new.plan
+  pub stands : PlanStandsOf command w d h new.carried new.plan
   pub plan : is_some new.plan ≡ is_none done.ended
   pub goes : done.ended ≡ None → joined_of v h command old.plan ≡ joined_in command
-  pub turn : (death : Option ℕ) (n : Notes) → PlanNotedOf command v h old.watch old.plan n → IsLeft death n.dying old.left
+  pub turn : (death : Option ℕ) (n : Notes) → PlanNotedOf command v h old.carried old.plan n → IsLeft death n.dying old.left
       → (later : Notes)
       × IsHostTurn v.locks.geometry h (joined_of v h command old.plan) death command v.locks.disk w.locks.disk made done.placed done.ended n later
-      × PlanNotedOf command w h new.watch new.plan later
+      × PlanNotedOf command w h new.carried new.plan later
       × IsLeft (death_behind command done.ended death) later.dying new.left
 
 -- behind an answer by which the host is cut no death stands

@@ -36,7 +36,7 @@ pub record IsRoomFor (w : Workload) (room : Room) : Type 0 where
   pub volume : room.cache.volume ≡ w.geometry
   pub nothing : (host : ℕ) (which : Table) → kept_at room.cache host which ≡ None
   pub heads : AreFirst w.lines w.geometry.hosts room.heads.items
-  pub seats : room.seats.items ≡ replicate w.geometry.hosts resting
+  pub seats : room.seats.items ≡ replicate w.geometry.hosts (resting w.geometry)
   pub budget : room.budget ≡ record { used = replicate w.geometry.hosts 0; left = 0 }
 
 -- the parts and the cluster before the first turn

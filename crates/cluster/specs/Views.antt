@@ -13,7 +13,8 @@ use Rattle.host_facts.specs.Views.{WorldView}
 use Rattle.host_runs.specs.NextLines.{line_at, next_line}
 use Rattle.host_runs.specs.Notes.{Notes}
 use Rattle.host_runs.specs.RunStates.{RunEvent, RunState}
-use Rattle.watch.specs.Looks.{nothing}
+use Rattle.vol_layout.specs.declared.geometry.Geometry.{Geometry}
+use Rattle.cluster.specs.Carries.{fresh}
 use Rattle.cluster.specs.declared.seat.Seat.{Seat}
 
 -- what came to be known: the answers by position, the history, and its entries and the answers in the order in which they came
@@ -45,12 +46,12 @@ pub record ClusterView : Type 0 where
   pub parts : PartsView
   pub budget : BudgetView
 
--- the seat of a host, and the position of its first command without an answer
-abbrev pub resting : Seat
-resting = record { plan = None; watch = nothing; left = None }
+-- the seat of a host that has not begun, that of any host, and the position of its first command without an answer
+abbrev pub resting : Geometry → Seat
+resting g = record { plan = None; carried = fresh g; left = None }
 
 abbrev pub seat_at : PartsView → ℕ → Seat
-seat_at v h = slice_index_or v.seats h resting
+seat_at v h = slice_index_or v.seats h (resting v.workload.geometry)
 
 abbrev pub head_at : PartsView → ℕ → Option ℕ
 head_at v h = slice_index_or v.heads h None

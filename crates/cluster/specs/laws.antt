@@ -8,6 +8,8 @@ pub mod BegunTurns
 pub mod BudgetLaws
 pub mod CollectSteps
 pub mod FileSteps
+pub mod HandLaws
+pub mod HintSteps
 pub mod InvLaws
 pub mod LinesLeftLaws
 pub mod ListLaws
@@ -16,6 +18,7 @@ pub mod MeasureLaws
 pub mod OpenLaws
 pub mod OpenedLaws
 pub mod PartsLaws
+pub mod PendingLaws
 pub mod PhaseLaws
 pub mod PlanTurnLaws
 pub mod RoomLaws

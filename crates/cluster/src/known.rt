@@ -6,17 +6,13 @@ ghost use Rattle.workload.specs.Workloads.{IsAllowed};
 use vol_base::Command;
 use workload::Line;
 
-/// Whether a cluster can run the line: not yet the commands on hints.
+/// Whether a cluster can run the line: not yet a `merge` or a `serve`.
 pub fn is_known(line: &Line) -> bool
     ensures { IsTrue result ↔ IsKnownLine line.now }
 {
     match line.command {
         Command::Look(of) | Command::Recover(of) => of != line.host,
-        Command::Log
-        | Command::Scan(_, _)
-        | Command::Merge
-        | Command::Serve
-        | Command::Scribble(_, _, _) => false,
+        Command::Merge | Command::Serve => false,
         _ => true,
     }
 }

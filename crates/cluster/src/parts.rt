@@ -1,22 +1,23 @@
 // The hosts over their one world, and one turn of one of them.
-ghost use Rattle.std.specs.Prelude.{◌≡◌, ◌+◌, ◌++◌, ◌*◌, ◌<◌, ◌≤◌, ◌&&◌, IfErr, IfOk, IsSome, None, Some, is_none, is_some, length, slice_get};
+ghost use Rattle.std.specs.Prelude.{◌≡◌, ◌+◌, ◌++◌, ◌*◌, ◌<◌, ◌≤◌, IfErr, IfOk, None, Some, length, slice_get};
 ghost use Rattle.cluster.specs.Agreements.{IsSound, IsStanding, IsSteady, IsUnmoved, Supplied, Turned};
-ghost use Rattle.cluster.specs.Parts.{HasBegun, IsCommandAt, IsNoted, IsOpenFrom, IsStepped, MayStep, asked_by, asked_of, of_phase};
+ghost use Rattle.cluster.specs.Hands.{MayHandIn};
+ghost use Rattle.cluster.specs.Parts.{HasTaken, IsCommandAt, IsNoted, IsOpenFrom, IsStepped, MayStep, asked_by, asked_of, of_phase};
 ghost use Rattle.cluster.specs.PlanTurns.{GoesSooner, IsSoonerFor, IsSuppliedTurns};
 ghost use Rattle.cluster.specs.Views.{head_at, seat_at};
 ghost use Rattle.cluster.specs.Waits.{Tells};
 ghost use Rattle.disk_locks.specs.Consistent.{Consistent};
 ghost use Rattle.host_runs.specs.NextLines.{next_line};
 ghost use Rattle.host_runs.specs.RunStates.{entry_at, events_at};
-ghost use Rattle.lock_store.specs.Views.{host_at};
 
+use crate::asking::asked_with;
 use crate::ledger::Ledger;
 use crate::seat::{Done, Seat};
 use held_cache::HeldCache;
 use meta_world::MetaWorld;
 use shared_disk::Device;
 use std::marker::Model;
-use vol_base::{Block, Command, Digest, HostNo, NoMemory, Turn, number_block};
+use vol_base::{Block, Command, Digest, HostNo, NoMemory, Turn};
 use workload::{Line, Workload};
 
 /// All of a cluster but its beginning.
@@ -84,7 +85,8 @@ impl<D: Device> Parts<D> {
         }
     }
 
-    /// The block whose digest a host waits for: that of a `write` which its joined host is to begin.
+    /// The block whose digest a host waits for: that of a `write` or a `scribble` which its joined host is to begin, or one that a `scan`
+    /// has read.
     pub fn awaited(&self, host: HostNo) -> Option<Block>
         requires sound { IsSound self.now }
         ensures { result ≡ asked_of self.now host }
@@ -135,7 +137,7 @@ impl<D: Device> Parts<D> {
         }
     }
 
-    /// Hands in the digest that a host waits for, by which its command begins; where it waits for none, nothing changes.
+    /// Hands in the digest that a host waits for, by which its command begins or goes on; where it waits for none, nothing changes.
     pub fn supply(&mut self, host: HostNo, digest: Digest)
         requires sound { IsSound self.old }
         requires standing { IsStanding self.old }
@@ -170,11 +172,11 @@ impl<D: Device> Parts<D> {
         }
     }
 
-    // The command begins with this digest.
+    // The command begins, or goes on, with this digest.
     fn hand_in(&mut self, host: HostNo, command: &Command, digest: Digest)
         requires host { host < length self.old.seats }
-        requires asks { IsSome (asked_by self.old host command.now) }
-        ensures { HasBegun self.old host command.now self.new }
+        requires may { MayHandIn command.now (seat_at self.old host) }
+        ensures { HasTaken self.old host command.now digest self.new }
     {
         self.seats[usize::from(host)].hand_in(host, command, digest);
     }
@@ -255,25 +257,15 @@ impl<D: Device> Parts<D> {
         self.workload.lines.as_slice()[position as usize].command
     }
 
-    // The block whose digest a host waits for before this command.
+    // The block whose digest a host waits for, which is at this command.
     fn asked(&self, host: HostNo, command: &Command) -> Option<Block>
         requires sound { IsSound self.now }
         requires host { host < self.now.workload.geometry.hosts }
         ensures { result ≡ asked_by self.now host command.now }
     {
-        match command {
-            Command::Write(_, _, n) if self.may_begin(host) => Some(number_block(*n)),
-            _ => None,
-        }
-    }
-
-    // Whether a host is joined and between two commands.
-    fn may_begin(&self, host: HostNo) -> bool
-        requires sound { IsSound self.now }
-        requires host { host < self.now.workload.geometry.hosts }
-        ensures { result ≡ (is_none (seat_at self.now host).plan && is_some (host_at self.now.world.locks host).key) }
-    {
-        self.seats[usize::from(host)].plan.is_none() && self.world.locks().host(host).key.is_some()
+        let joined = self.world.locks().host(host).key.is_some();
+        let seat = &self.seats[usize::from(host)];
+        asked_with(&self.workload.geometry, &seat.plan, joined, command)
     }
 }
 

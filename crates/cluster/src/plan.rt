@@ -1,7 +1,10 @@
 // The plan of a command under way.
-ghost use Rattle.std.specs.Prelude.{◌≡◌, ◌<◌, IfErr, IfOk};
+ghost use Rattle.std.specs.Prelude.{◌≡◌, ◌<◌, IfErr, IfOk, None};
 ghost use Rattle.cluster.specs.PlanTurns.{IsSooner};
-ghost use Rattle.cluster.specs.Plans.{ForgetsBehind, ForgetsFor, HasStepped, IsAsking, IsBegun, IsOf, IsPlanned, IsSuppliedIn, PlanAt, PlanNoted, looks_behind};
+ghost use Rattle.cluster.specs.Asking.{plan_asks};
+ghost use Rattle.cluster.specs.Hands.{IsAsking, IsSuppliedIn, MayTake};
+ghost use Rattle.cluster.specs.Plans.{ForgetsBehind, ForgetsFor, HasStepped, IsBegun, IsOf, IsPlanned, PlanAt, PlanNoted};
+ghost use Rattle.hint_plans.specs.Plans as hints;
 ghost use Rattle.host_runs.specs.Notes.{Notes};
 ghost use Rattle.file_plans.specs.Calls.{Runs};
 ghost use Rattle.recover_plan.specs.Plans.{command_of};
@@ -9,14 +12,15 @@ ghost use Rattle.file_plans.specs.Went.{LeavesOthers};
 ghost use Rattle.host_facts.specs.Others.{Others};
 ghost use Rattle.plan_parts.specs.Cuts.{IsUntouched};
 
+use crate::carried::Carried;
 use file_plans::FilePlan;
 use held_cache::HeldCache;
+use hint_plans::HintPlan;
 use meta_world::MetaWorld;
 use recover_plan::RecoverPlan;
 use share_plans::CollectPlan;
 use shared_disk::Device;
 use vol_base::{Answer, Command, Digest, HostNo, Next, NoMemory, Step, plain_call};
-use watch::Watch;
 
 /// A command under way. Each sort of plan has one arm here, in `of` and in `next`.
 #[derive(Drop)]
@@ -27,6 +31,8 @@ pub enum Plan {
     Slots(RecoverPlan),
     /// The collection of a part's slots.
     Collects(CollectPlan),
+    /// A command on hints.
+    Hints(HintPlan),
 }
 
 impl Plan {
@@ -41,19 +47,28 @@ impl Plan {
         if let Command::Collect(part) = *command {
             return Plan::Collects(CollectPlan::new(host, part));
         }
+        if let Command::Log | Command::Scan(_, _) | Command::Scribble(_, _, _) = *command {
+            return Plan::Hints(HintPlan::new(host, command));
+        }
         match plain_call(command) {
             Some(call) => Plan::Files(FilePlan::new(host, &call)),
             None => Plan::Slots(RecoverPlan::new(host, *command)),
         }
     }
 
-    /// Hands in the digest of its block to the plan of a `write`.
-    pub fn hand_in(&mut self, digest: Digest)
-        requires { IsAsking self.old }
-        ensures { IsSuppliedIn self.old self.new }
+    /// Hands in the digest of the block that the plan waits for.
+    pub fn hand_in(&mut self, digest: Digest, carried: &mut Carried)
+        requires asks { IsAsking self.old }
+        requires may { MayTake carried.old.pending.geometry self.old }
+        ensures { IsSuppliedIn digest carried.old carried.new self.old self.new }
     {
-        if let Plan::Files(plan) = self {
-            plan.supply(digest);
+        match self {
+            Plan::Files(plan) => {
+                plan.supply(digest);
+                carried.digest = Some(digest);
+            }
+            Plan::Hints(plan) => plan.supply(digest, &mut carried.pending),
+            Plan::Slots(_) | Plan::Collects(_) => {}
         }
     }
 
@@ -65,21 +80,23 @@ impl Plan {
         command: &Command,
         world: &mut MetaWorld<D>,
         cache: &mut HeldCache,
-        watch: &mut Watch,
+        carried: &mut Carried,
     ) -> Result<Step, NoMemory>
         requires of { IsOf host command.now self.old }
-        requires at { PlanAt world.old cache.old host watch.old self.old }
-        requires noted { (n : Notes) × PlanNoted command.now world.old host watch.old self.old n }
-        ensures stepped { IfOk result (HasStepped command.now host world.old world.new cache.new watch.old watch.new self.old self.new) }
+        requires at { PlanAt world.old cache.old host carried.old self.old }
+        requires noted { (n : Notes) × PlanNoted command.now world.old host carried.old self.old n }
+        requires unasked { plan_asks world.old.locks.geometry self.old ≡ None }
+        ensures stepped { IfOk result (HasStepped command.now host world.old world.new cache.new carried.old carried.new self.old self.new) }
         ensures sooner { IfOk result (λ step. IsSooner world.old cache.old self.old world.new cache.new self.new step.next) }
         ensures none { IfErr result (λ e. IsUntouched host world.old world.new) }
         ensures others { Others host world.old world.new }
         ensures leaves { LeavesOthers host cache.old cache.new }
     {
         match self {
-            Plan::Files(plan) => step_on_file(plan, command, world, cache, watch),
-            Plan::Slots(plan) => step_on_slots(plan, command, world, cache, watch),
-            Plan::Collects(plan) => step_of_collection(plan, command, world, cache, watch),
+            Plan::Files(plan) => step_on_file(plan, command, world, cache, carried),
+            Plan::Slots(plan) => step_on_slots(plan, command, world, cache, carried),
+            Plan::Collects(plan) => step_of_collection(plan, command, world, cache, carried),
+            Plan::Hints(plan) => step_on_hints(plan, command, world, cache, carried),
         }
     }
 }
@@ -90,33 +107,25 @@ fn step_on_file<D: Device>(
     command: &Command,
     world: &mut MetaWorld<D>,
     cache: &mut HeldCache,
-    watch: &mut Watch,
+    carried: &mut Carried,
 ) -> Result<Step, NoMemory>
     requires runs { Runs command.now plan.old.core.call }
-    requires at { PlanAt world.old cache.old plan.old.core.host watch.old (Plan.Files plan.old) }
-    requires noted { (n : Notes) × PlanNoted command.now world.old plan.old.core.host watch.old (Plan.Files plan.old) n }
-    ensures stepped { IfOk result (HasStepped command.now plan.old.core.host world.old world.new cache.new watch.old watch.new (Plan.Files plan.old) (Plan.Files plan.new)) }
+    requires at { PlanAt world.old cache.old plan.old.core.host carried.old (Plan.Files plan.old) }
+    requires noted { (n : Notes) × PlanNoted command.now world.old plan.old.core.host carried.old (Plan.Files plan.old) n }
+    ensures stepped { IfOk result (HasStepped command.now plan.old.core.host world.old world.new cache.new carried.old carried.new (Plan.Files plan.old) (Plan.Files plan.new)) }
     ensures sooner { IfOk result (λ step. IsSooner world.old cache.old (Plan.Files plan.old) world.new cache.new (Plan.Files plan.new) step.next) }
     ensures none { IfErr result (λ e. IsUntouched plan.old.core.host world.old world.new) }
     ensures others { Others plan.old.core.host world.old world.new }
     ensures leaves { LeavesOthers plan.old.core.host cache.old cache.new }
 {
-    let _command = command;
+    let geometry = *world.locks().geometry();
     match plan.next(world, cache) {
         Ok(step) => {
-            forget_slots(&step.next, watch);
+            carried.note(command, &step.next, &geometry);
+            carried.forget_slots(&step.next);
             Ok(step)
         }
         Err(no) => Err(no),
-    }
-}
-
-// A host that was cut remembers no slot.
-fn forget_slots(next: &Next, watch: &mut Watch)
-    ensures { watch.new ≡ looks_behind next.now watch.old }
-{
-    if let Next::Answered(Answer::Cut(_)) = next {
-        *watch = Watch::new();
     }
 }
 
@@ -126,21 +135,24 @@ fn step_on_slots<D: Device>(
     command: &Command,
     world: &mut MetaWorld<D>,
     cache: &mut HeldCache,
-    watch: &mut Watch,
+    carried: &mut Carried,
 ) -> Result<Step, NoMemory>
     requires of { command_of plan.old.doing ≡ command.now }
-    requires at { PlanAt world.old cache.old plan.old.host watch.old (Plan.Slots plan.old) }
-    ensures stepped { IfOk result (HasStepped command.now plan.old.host world.old world.new cache.new watch.old watch.new (Plan.Slots plan.old) (Plan.Slots plan.new)) }
+    requires at { PlanAt world.old cache.old plan.old.host carried.old (Plan.Slots plan.old) }
+    requires noted { (n : Notes) × PlanNoted command.now world.old plan.old.host carried.old (Plan.Slots plan.old) n }
+    ensures stepped { IfOk result (HasStepped command.now plan.old.host world.old world.new cache.new carried.old carried.new (Plan.Slots plan.old) (Plan.Slots plan.new)) }
     ensures sooner { IfOk result (λ step. IsSooner world.old cache.old (Plan.Slots plan.old) world.new cache.new (Plan.Slots plan.new) step.next) }
     ensures none { IfErr result (λ e. IsUntouched plan.old.host world.old world.new) }
     ensures others { Others plan.old.host world.old world.new }
     ensures leaves { LeavesOthers plan.old.host cache.old cache.new }
 {
+    let geometry = *world.locks().geometry();
     let host = plan.host;
     forget_for(command, host, cache);
-    match plan.next(world, watch) {
+    match plan.next(world, &mut carried.watch) {
         Ok(step) => {
             forget_behind(&step.next, host, cache);
+            carried.note(command, &step.next, &geometry);
             Ok(step)
         }
         Err(no) => Err(no),
@@ -153,23 +165,56 @@ fn step_of_collection<D: Device>(
     command: &Command,
     world: &mut MetaWorld<D>,
     cache: &mut HeldCache,
-    watch: &mut Watch,
+    carried: &mut Carried,
 ) -> Result<Step, NoMemory>
     requires of { Command.Collect plan.old.core.part ≡ command.now }
-    requires at { PlanAt world.old cache.old plan.old.core.host watch.old (Plan.Collects plan.old) }
-    requires noted { (n : Notes) × PlanNoted command.now world.old plan.old.core.host watch.old (Plan.Collects plan.old) n }
-    ensures stepped { IfOk result (HasStepped command.now plan.old.core.host world.old world.new cache.new watch.old watch.new (Plan.Collects plan.old) (Plan.Collects plan.new)) }
+    requires at { PlanAt world.old cache.old plan.old.core.host carried.old (Plan.Collects plan.old) }
+    requires noted { (n : Notes) × PlanNoted command.now world.old plan.old.core.host carried.old (Plan.Collects plan.old) n }
+    ensures stepped { IfOk result (HasStepped command.now plan.old.core.host world.old world.new cache.new carried.old carried.new (Plan.Collects plan.old) (Plan.Collects plan.new)) }
     ensures sooner { IfOk result (λ step. IsSooner world.old cache.old (Plan.Collects plan.old) world.new cache.new (Plan.Collects plan.new) step.next) }
     ensures none { IfErr result (λ e. IsUntouched plan.old.core.host world.old world.new) }
     ensures others { Others plan.old.core.host world.old world.new }
     ensures leaves { LeavesOthers plan.old.core.host cache.old cache.new }
 {
-    let _command = command;
+    let geometry = *world.locks().geometry();
     let host = plan.core.host;
     match plan.next(world) {
         Ok(step) => {
             forget_behind(&step.next, host, cache);
-            forget_slots(&step.next, watch);
+            carried.note(command, &step.next, &geometry);
+            carried.forget_slots(&step.next);
+            Ok(step)
+        }
+        Err(no) => Err(no),
+    }
+}
+
+// A step on hints, which says itself which of them are pending.
+fn step_on_hints<D: Device>(
+    plan: &mut HintPlan,
+    command: &Command,
+    world: &mut MetaWorld<D>,
+    cache: &mut HeldCache,
+    carried: &mut Carried,
+) -> Result<Step, NoMemory>
+    requires of { hints.command_of plan.old.doing ≡ command.now }
+    requires at { PlanAt world.old cache.old plan.old.host carried.old (Plan.Hints plan.old) }
+    requires noted { (n : Notes) × PlanNoted command.now world.old plan.old.host carried.old (Plan.Hints plan.old) n }
+    requires unasked { plan_asks world.old.locks.geometry (Plan.Hints plan.old) ≡ None }
+    ensures stepped { IfOk result (HasStepped command.now plan.old.host world.old world.new cache.new carried.old carried.new (Plan.Hints plan.old) (Plan.Hints plan.new)) }
+    ensures sooner { IfOk result (λ step. IsSooner world.old cache.old (Plan.Hints plan.old) world.new cache.new (Plan.Hints plan.new) step.next) }
+    ensures none { IfErr result (λ e. IsUntouched plan.old.host world.old world.new) }
+    ensures others { Others plan.old.host world.old world.new }
+    ensures leaves { LeavesOthers plan.old.host cache.old cache.new }
+{
+    let _command = command;
+    let _geometry = world.locks().geometry();
+    let host = plan.host;
+    match plan.next(world, &mut carried.pending) {
+        Ok(step) => {
+            let _later = world.locks().geometry();
+            forget_behind(&step.next, host, cache);
+            carried.forget_slots(&step.next);
             Ok(step)
         }
         Err(no) => Err(no),

@@ -1,13 +1,14 @@
 // A host between two of its turns, and one turn of it.
 ghost use Rattle.std.specs.Prelude.{◌≡◌, ◌<◌, ◌&&◌, IfErr, IfOk, IfSome, IsSome, IsTrue, None, Some, if◌then◌else◌, is_some, true};
 ghost use Rattle.cluster.specs.Dropping.{IsAnsweredAtOnce, IsDroppedIn};
-ghost use Rattle.cluster.specs.Parts.{IsHandedIn, IsWrite};
+ghost use Rattle.cluster.specs.Asking.{asked_with, plan_asks};
+ghost use Rattle.cluster.specs.Hands.{IsHandedIn, MayHandIn};
 ghost use Rattle.cluster.specs.PlanTurns.{GoesSooner};
 ghost use Rattle.cluster.specs.Plans.{IsOf, IsPlanned, IsResting, PlanAt};
 ghost use Rattle.cluster.specs.Seats.{HasMoved, IsKnown, MakesTurn, PlanNotedOf, PlanStandsOf, at_once, is_last, left_behind, less};
-ghost use Rattle.host_runs.specs.Awaited.{first_block};
 ghost use Rattle.host_runs.specs.Notes.{Notes};
-ghost use Rattle.watch.specs.Looks.{nothing};
+ghost use Rattle.cluster.specs.Views.{resting};
+ghost use Rattle.vol_layout.specs.Ranges.{IsGeometry};
 ghost use Rattle.workload.specs.Ranges.{is_in_range};
 ghost use Rattle.file_plans.specs.Went.{LeavesOthers};
 ghost use Rattle.host_facts.specs.Others.{Others};
@@ -15,20 +16,21 @@ ghost use Rattle.lock_store.specs.Views.{host_at};
 ghost use Rattle.plan_parts.specs.Cuts.{IsUntouched};
 ghost use Rattle.plan_parts.specs.Steps.{ended_of};
 
+use crate::carried::Carried;
 use crate::plan::Plan;
 use held_cache::HeldCache;
 use meta_world::MetaWorld;
 use shared_disk::Device;
 use vol_base::{Answer, Command, CutBy, Digest, HostNo, Next, NoMemory, PlainReply, Step};
-use watch::Watch;
+use vol_layout::Geometry;
 
 /// A host of the cluster.
 #[derive(Drop)]
 pub struct Seat {
     /// The plan of its command under way, from the command's first step until its answer.
     pub plan: Option<Plan>,
-    /// What it remembers of the slots of other hosts.
-    pub watch: Watch,
+    /// What it keeps beside it.
+    pub carried: Carried,
     /// The number of device calls until it dies, at least 1; none where no death stands.
     pub left: Option<u32>,
 }
@@ -42,12 +44,13 @@ pub struct Done {
 
 impl Seat {
     /// A host that has not begun.
-    pub fn new() -> Seat
-        ensures { result ≡ record { plan = None; watch = nothing; left = None } }
+    pub fn new(geometry: &Geometry) -> Seat
+        requires { IsGeometry geometry.now }
+        ensures { result ≡ resting geometry.now }
     {
         Seat {
             plan: None,
-            watch: Watch::new(),
+            carried: Carried::new(geometry),
             left: None,
         }
     }
@@ -63,9 +66,9 @@ impl Seat {
         requires host { host < world.old.locks.geometry.hosts }
         requires known { IsKnown host command.now }
         requires range { IsTrue (is_in_range world.old.locks.geometry command.now) }
-        requires stands { PlanStandsOf command.now world.old cache.old host self.old.watch self.old.plan }
-        requires noted { (n : Notes) × PlanNotedOf command.now world.old host self.old.watch self.old.plan n }
-        requires digest { self.old.plan ≡ None → is_some (host_at world.old.locks host).key ≡ true → first_block world.old.locks.geometry command.now ≡ None }
+        requires stands { PlanStandsOf command.now world.old cache.old host self.old.carried self.old.plan }
+        requires noted { (n : Notes) × PlanNotedOf command.now world.old host self.old.carried self.old.plan n }
+        requires unasked { asked_with world.old.locks.geometry self.old.plan (is_some (host_at world.old.locks host).key) command.now ≡ None }
         ensures made { IfOk result (MakesTurn command.now host world.old world.new cache.new self.old self.new) }
         ensures sooner { IfOk result (λ done. GoesSooner world.old cache.old self.old.plan world.new cache.new self.new.plan done.ended) }
         ensures none { IfErr result (λ e. IsUntouched host world.old world.new) }
@@ -78,13 +81,16 @@ impl Seat {
         }
     }
 
-    /// Begins a `write` whose digest is handed in. No device call is made.
+    /// Hands in the digest that the host waits for, by which its command goes on, or begins. No device call is made.
     pub fn hand_in(&mut self, host: HostNo, command: &Command, digest: Digest)
-        requires { IsWrite command.now }
-        ensures { IsHandedIn host command.now self.old self.new }
+        requires { MayHandIn command.now self.old }
+        ensures { IsHandedIn host command.now digest self.old self.new }
     {
-        let mut plan = Plan::of(host, command);
-        plan.hand_in(digest);
+        let mut plan = match self.plan.take() {
+            Some(plan) => plan,
+            None => Plan::of(host, command),
+        };
+        plan.hand_in(digest, &mut self.carried);
         self.plan = Some(plan);
     }
 
@@ -100,9 +106,9 @@ impl Seat {
         requires known { IsKnown host command.now }
         requires range { IsTrue (is_in_range world.old.locks.geometry command.now) }
         requires none { self.old.plan ≡ None }
-        requires stands { IsResting world.old cache.old host self.old.watch }
-        requires noted { (n : Notes) × PlanNotedOf command.now world.old host self.old.watch self.old.plan n }
-        requires digest { is_some (host_at world.old.locks host).key ≡ true → first_block world.old.locks.geometry command.now ≡ None }
+        requires stands { IsResting world.old cache.old host self.old.carried }
+        requires noted { (n : Notes) × PlanNotedOf command.now world.old host self.old.carried self.old.plan n }
+        requires unasked { asked_with world.old.locks.geometry None (is_some (host_at world.old.locks host).key) command.now ≡ None }
         ensures made { IfOk result (MakesTurn command.now host world.old world.new cache.new self.old self.new) }
         ensures sooner { IfOk result (λ done. GoesSooner world.old cache.old self.old.plan world.new cache.new self.new.plan done.ended) }
         ensures none { IfErr result (λ e. IsUntouched host world.old world.new) }
@@ -130,9 +136,10 @@ impl Seat {
     ) -> Result<Done, NoMemory>
         requires host { host < world.old.locks.geometry.hosts }
         requires known { IsPlanned host command.now }
-        requires stands { IfSome self.old.plan (λ plan. IsOf host command.now plan × PlanAt world.old cache.old host self.old.watch plan) }
+        requires stands { IfSome self.old.plan (λ plan. IsOf host command.now plan × PlanAt world.old cache.old host self.old.carried plan) }
         requires some { IsSome self.old.plan }
-        requires noted { (n : Notes) × PlanNotedOf command.now world.old host self.old.watch self.old.plan n }
+        requires noted { (n : Notes) × PlanNotedOf command.now world.old host self.old.carried self.old.plan n }
+        requires unasked { IfSome self.old.plan (λ plan. plan_asks world.old.locks.geometry plan ≡ None) }
         ensures made { IfOk result (MakesTurn command.now host world.old world.new cache.new self.old self.new) }
         ensures sooner { IfOk result (λ done. GoesSooner world.old cache.old self.old.plan world.new cache.new self.new.plan done.ended) }
         ensures none { IfErr result (λ e. IsUntouched host world.old world.new) }
@@ -174,9 +181,10 @@ impl Seat {
         world: &mut MetaWorld<D>,
         cache: &mut HeldCache,
     ) -> Result<Step, NoMemory>
-        requires stands { IfSome self.old.plan (λ plan. IsOf host command.now plan × PlanAt world.old cache.old host self.old.watch plan) }
+        requires stands { IfSome self.old.plan (λ plan. IsOf host command.now plan × PlanAt world.old cache.old host self.old.carried plan) }
         requires some { IsSome self.old.plan }
-        requires noted { (n : Notes) × PlanNotedOf command.now world.old host self.old.watch self.old.plan n }
+        requires noted { (n : Notes) × PlanNotedOf command.now world.old host self.old.carried self.old.plan n }
+        requires unasked { IfSome self.old.plan (λ plan. plan_asks world.old.locks.geometry plan ≡ None) }
         ensures stepped { IfOk result (HasMoved command.now host world.old world.new cache.new self.old self.new) }
         ensures sooner { IfOk result (λ step. GoesSooner world.old cache.old self.old.plan world.new cache.new self.new.plan (ended_of step.next)) }
         ensures none { IfErr result (λ e. IsUntouched host world.old world.new) }
@@ -186,7 +194,7 @@ impl Seat {
         let Some(plan) = &mut self.plan else {
             unreachable!()
         };
-        let step = plan.next(host, command, world, cache, &mut self.watch)?;
+        let step = plan.next(host, command, world, cache, &mut self.carried)?;
         if answer_in(&step.next).is_some() {
             self.plan = None;
         }
@@ -252,10 +260,11 @@ impl Seat {
         requires cache { cache.old.volume ≡ world.old.locks.geometry }
         ensures { IsDroppedIn host world.old world.new cache.old cache.new self.new }
     {
+        let geometry = *world.locks().geometry();
         world.locks_mut().drop_host(host);
         cache.forget_host(host);
         self.plan = None;
-        self.watch = Watch::new();
+        self.carried = Carried::new(&geometry);
         self.left = None;
     }
 }

@@ -7,6 +7,7 @@ ghost use Rattle.cluster.specs.Views.{resting};
 ghost use Rattle.host_runs.specs.DeviceCalls.{OnImage};
 ghost use Rattle.image_view.specs.Valid.{IsValid};
 ghost use Rattle.shared_disk.specs.Seen.{seen_by};
+ghost use Rattle.vol_layout.specs.Ranges.{IsGeometry};
 ghost use Rattle.vol_layout.specs.Regions.{total};
 ghost use Rattle.workload.specs.Workloads.{IsWorkload};
 
@@ -22,6 +23,7 @@ use meta_world::MetaWorld;
 use shared_disk::Device;
 use std::alloc::Global;
 use vol_base::{HostNo, NoMemory};
+use vol_layout::Geometry;
 use volume_opening::{OpenNo, open};
 use workload::{Line, Workload};
 
@@ -107,7 +109,7 @@ fn take_room(alloc: Global, workload: &Workload) -> Result<Room, NoMemory>
         ledger: Ledger::new(alloc, lines.len())?,
         cache: HeldCache::new(alloc, &workload.geometry)?,
         heads: first_lines(alloc, lines, hosts)?,
-        seats: first_seats(alloc, hosts)?,
+        seats: first_seats(alloc, &workload.geometry)?,
         budget: Budget::new(alloc, hosts)?,
     })
 }
@@ -125,12 +127,14 @@ fn first_lines(alloc: Global, lines: &[Line], hosts: HostNo) -> Result<Vec<Optio
 }
 
 // All hosts before they begin.
-fn first_seats(alloc: Global, hosts: HostNo) -> Result<Vec<Seat>, NoMemory>
-    ensures { IfOk result (λ seats. seats.items ≡ replicate hosts resting) }
+fn first_seats(alloc: Global, geometry: &Geometry) -> Result<Vec<Seat>, NoMemory>
+    requires { IsGeometry geometry.now }
+    ensures { IfOk result (λ seats. seats.items ≡ replicate geometry.now.hosts (resting geometry.now)) }
 {
+    let hosts = geometry.hosts;
     let mut seats = Vec::with_capacity(alloc, usize::from(hosts))?;
     for _ in 0..hosts {
-        seats.push_reserved(Seat::new());
+        seats.push_reserved(Seat::new(geometry));
     }
     Ok(seats)
 }

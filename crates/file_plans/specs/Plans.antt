@@ -1,11 +1,10 @@
 -- What a step of a plan did, and what is done first.
-use Rattle.std.specs.Prelude.{◌≡◌, ℕ, false, if◌then◌else◌, None, Some}
+use Rattle.std.specs.Prelude.{◌≡◌, false, if◌then◌else◌, None, Some}
 use Rattle.vol_base.specs.declared.answer.Next.{Next}
 use Rattle.vol_base.specs.declared.answer.Next.TheVariants.{Answered, More, Work}
 use Rattle.vol_base.specs.declared.answer.Step.{Step}
 use Rattle.vol_base.specs.declared.block.Block.{Block}
 use Rattle.vol_base.specs.declared.command.Command.{Command}
-use Rattle.lock_store.specs.Views.{host_at}
 use Rattle.held_cache.specs.Kept.{Cache}
 use Rattle.host_facts.specs.Views.{WorldView}
 use Rattle.host_runs.specs.Awaited.{wanted}
@@ -13,6 +12,7 @@ use Rattle.host_runs.specs.Notes.{Notes}
 use Rattle.plan_parts.specs.Steps.{IsAtRest, OwesStep}
 use Rattle.file_plans.specs.Bases.{IsCached}
 use Rattle.file_plans.specs.Calls.{Runs, is_write}
+use Rattle.file_plans.specs.Sights.{MayPlace}
 use Rattle.file_plans.specs.Stands.{At, NotedAt}
 use Rattle.file_plans.specs.Went.{IsCutAt, Went}
 use Rattle.lock_store.specs.declared.answers.StepNo.{StepNo}
@@ -40,6 +40,7 @@ pub record IsWaiting (v w : WorldView) (d : Cache) (old new : Core) (before : St
 -- the command was answered: the turn owes nothing, its host is at rest, and what is kept for it is right
 pub record IsEnded (v w : WorldView) (d : Cache) (old : Core) (before : Stage) (step : Step) : Type 0 where
   pub cached : IsCached w d old.host
+  pub in_range : MayPlace v.locks.geometry old.call step.placed
   pub owes : (command : Command) → Runs command old.call
       → OwesStep command old.host v w step (NotedAt command v old before) (λ n. IsAtRest w old.host n)
 

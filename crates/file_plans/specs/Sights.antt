@@ -1,6 +1,8 @@
 -- What a command is to do, by the tables that are known of its file.
-use Rattle.std.specs.Prelude.{◌≡◌, ◌⊎◌, ◌≤◌, ◌+◌, ◌-◌, ℕ, Bool, true, false, None, Some}
+use Rattle.std.specs.Prelude.{◌≡◌, ◌⊎◌, ◌<◌, ◌≤◌, ◌+◌, ◌-◌, ℕ, Bool, true, false, None, Option, Some}
 use Rattle.vol_base.specs.declared.plain.PlainCall.TheVariants.{Create, Punch, Read, Remove, Size, Write}
+use Rattle.vol_base.specs.declared.plain.PlainReply.{PlainReply}
+use Rattle.vol_base.specs.declared.plain.PlainReply.TheVariants.{Done}
 use Rattle.vol_layout.specs.declared.field.Field.TheVariants.{Head, Pointer}
 use Rattle.vol_layout.specs.declared.geometry.Geometry.{Geometry}
 use Rattle.vol_layout.specs.declared.kind.Resource.TheVariants.{File}
@@ -35,11 +37,20 @@ MayWant (Plain (Punch f i)) t = IsOfIndex f i t
 MayWant (Plain (Size f k)) t = Unit {0}
 MayWant (Close f) t = Unit {0}
 
+-- a write that is done is below the greatest length
+abbrev pub MayReply : Geometry → PlainReply → FileCall → Type 0
+MayReply g Done (Plain (Write f i block)) = i < limit g
+MayReply g reply call = Unit {0}
+
+abbrev pub MayPlace : Geometry → FileCall → Option PlainReply → Type 0
+MayPlace g call None = Unit {0}
+MayPlace g call (Some reply) = MayReply g reply call
+
 -- what is to be done is right by what the known tables say
 abbrev pub IsSight : Geometry → Known → FileCall → Sight → Type 0
 IsSight g known call (Needs t) = IsFileTable g t × (owner t ≡ File (file_of call)) × (known t ≡ None) × MayWant call t
 IsSight g known (Plain call) (Settled reply) =
-    (image : Image) → SpellsGeometry (first_block image) g → Reads g known image → IsLook g call reply image
+    MayReply g reply (Plain call) × ((image : Image) → SpellsGeometry (first_block image) g → Reads g known image → IsLook g call reply image)
 IsSight g known (Plain (Read f i)) (Shows d) = (shared : Bool) × HasBlock g known f i (At d shared)
 IsSight g known (Plain (Write f i block)) (Own d) = HasBlock g known f i (At d false)
 IsSight g known (Plain (Write f i block)) (Fresh None) = HasBlock g known f i Hole

@@ -9,7 +9,7 @@ use Rattle.std.specs.Prelude.{None}
 use Rattle.std.specs.Prelude.{Option}
 use Rattle.vol_layout.specs.declared.geometry.Geometry.{Geometry}
 use Rattle.file_plans.specs.Says.{Known}
-use Rattle.file_plans.specs.Sights.{IsSight}
+use Rattle.file_plans.specs.Sights.{IsSight, MayPlace}
 use Rattle.file_plans.specs.declared.sight.Sight.TheVariants.{Settled}
 use Rattle.vol_base.specs.declared.plain.PlainReply.{PlainReply}
 use Rattle.std.specs.Prelude.{true}
@@ -60,6 +60,7 @@ pub record Went (v w : WorldView) (d : Cache) (old new : Core) (before : Stage) 
   pub call : new.call ≡ old.call
   pub cached : IsCached w d old.host
   pub stands : StandsBehind w d new step.next after
+  pub in_range : MayPlace v.locks.geometry old.call step.placed
   pub owes : (command : Command) → Runs command old.call
       → OwesStep command old.host v w step (NotedAt command v old before) (NotedBehind command w new step.next after)
 

@@ -8,9 +8,10 @@
 //!   a file is closed that the host has neither to write nor to read. Whatever the notes of a run were that agree with the plan (`NotedAt`),
 //!   the step is a turn of the run (`OwesStep`): at the place of the call the reply is the plain one, and the files are then as the plain
 //!   call leaves them; at no other step they change; an answer has its cause; the notes behind agree with the plan, which stands
-//!   (`Went`), or with a host that is at rest (`IsEnded`): no record of it stands, and it holds no part and no group. A call that was refused
-//!   is answered as a cut, and the host is dropped. Where there was no memory for a call nothing was done (`IsUntouched`). What others
-//!   rely on stays (`Others`), and what is kept for them (`LeavesOthers`).
+//!   (`Went`), or with a host that is at rest (`IsEnded`): no record of it stands, and it holds no part and no group. A write whose reply is
+//!   `Done` has an index below the greatest length (`MayPlace`). A call that was
+//!   refused is answered as a cut, and the host is dropped. Where there was no memory for a call nothing was done (`IsUntouched`). What
+//!   others rely on stays (`Others`), and what is kept for them (`LeavesOthers`).
 //! - A plan stands at its first step where its host is ready, and the notes of a host at rest agree with it (`begin_stands`, `begin_noted`);
 //!   and so do both with the digest that was handed in (`supply_stands`, `supply_noted`).
 //! - Over a step of another host, which may have changed what is kept for that host beside what the volume holds, a plan stands and the

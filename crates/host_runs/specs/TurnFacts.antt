@@ -1,5 +1,5 @@
 -- What a turn's calls may write into slots and locks, and what its host holds when its command was answered.
-use Rattle.std.specs.Prelude.{◌≡◌, ◌≢◌, ◌⊎◌, ◌<◌, ℕ, false, List, [], Option, Some, IfSome, IsSome}
+use Rattle.std.specs.Prelude.{◌≡◌, ◌≢◌, ◌⊎◌, ◌<◌, ℕ, false, List, [], None, Option, Some, IfSome, IsSome}
 use Rattle.vol_base.specs.declared.answer.Answer.{Answer}
 use Rattle.vol_base.specs.declared.answer.Answer.TheVariants as answers
 use Rattle.vol_base.specs.declared.command.Command.{Command}
@@ -36,10 +36,12 @@ pub record MayTestLock (m : Moment) (key : ℕ) (r : Resource) (old new : List �
   pub again : (f : ℕ) → r ≡ resources.File f → IsSome (try_of m.command)
       → (file_tried m.command ≡ Some f) × IfSome m.old.tries.found (λ word. old ≡ word)
 
--- what a test-and-set asks to write: into a slot what it will, where it is the host's own or the one that it recovers
+-- what a test-and-set asks to write: into a slot what it will, where it is the host's own or the one that it recovers; nothing behind the
+-- volume's blocks
 abbrev pub MayTest : Moment → ℕ → Option Kind → List ℕ → List ℕ → Type 0
 MayTest m key (Some (kinds.Lock r)) old new = MayTestLock m key r old new
 MayTest m key (Some (kinds.Slot of)) old new = (of ≡ m.host) ⊎ (m.command ≡ commands.Recover of)
+MayTest m key None old new = ⊥
 MayTest m key kind old new = Unit {0}
 
 -- what a test-and-set that was done may have changed: in a lock that is read no key of another host; a slot enters under the own
@@ -52,10 +54,11 @@ MaySwap m key (Some (kinds.Slot of)) old new =
     ⊎ ((state_in new ≡ 0) × ((of ≡ m.host) ⊎ (state_in old ≡ 2)))
 MaySwap m key kind old new = Unit {0}
 
--- what a plain write may write: a lock is freed; the own slot is freed, or beats under the own key
+-- what a plain write may write: a lock is freed; the own slot is freed, or beats under the own key; nothing behind the volume's blocks
 abbrev pub MayWrite : Moment → ℕ → Option Kind → List ℕ → Type 0
 MayWrite m key (Some (kinds.Lock r)) block = state_in block ≡ 0
 MayWrite m key (Some (kinds.Slot of)) block = (of ≡ m.host) × ((state_in block ≡ 0) ⊎ ((state_in block ≡ 1) × (key_in block ≡ key)))
+MayWrite m key None block = ⊥
 MayWrite m key kind block = Unit {0}
 
 -- what a call may write into slots and locks

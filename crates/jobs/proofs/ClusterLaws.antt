@@ -6,7 +6,7 @@ use Rattle.vol_base.specs.declared.answer.Answer.{Answer}
 use Rattle.vol_layout.specs.declared.geometry.Geometry.{Geometry}
 use Rattle.shared_disk.specs.Prefixes.{EachImage, Prefixes}
 use Rattle.shared_disk.specs.Seen.{DiskSeen}
-use Rattle.shared_disk.specs.State.{State, Told}
+use Rattle.shared_disk.specs.State.{OnImages, State, Told}
 use Rattle.plain_files.specs.Plain.{Plain}
 use Rattle.plain_files.specs.declared.history.Placed.{Placed}
 use Rattle.workload.specs.declared.line.Workload.{Workload}
@@ -27,7 +27,9 @@ use Rattle.cluster.specs.Runs.{Facts, SameStart, showing}
 use Rattle.cluster.specs.Starts.{HasStarted}
 use Rattle.cluster.specs.Views.{ClusterView, disk_of, state_of}
 use Rattle.volume_opening.specs.Openings.{IsOnTheWay, WasBlank}
+use Rattle.jobs.specs.Beyond.{KeepsBeyond}
 use Rattle.jobs.specs.Runs.{HasSomeRun, IsOwed, IsRunOf, IsUnused, Opens, Schedule}
+use Rattle.jobs.proofs.BeyondLaws.{run_beyond}
 use Rattle.jobs.proofs.FilesSince.{Leads, blank_or_same, ends_valid, led_moved, led_told}
 
 pub opens_of : (w : Workload) (old : DiskSeen) (c : ClusterView) → HasStarted old w c → Opens w.geometry old c.began
@@ -64,6 +66,18 @@ fits_of w old c d last h same facts answers history =
     let two : F w last.answers d.parts.ledger.history = subst (λ (xs : List (Option Answer)). F w xs d.parts.ledger.history) (sym answers) one in
     subst (λ (ys : List Placed). F w last.answers ys) (sym history) two
 
+beyond_of : (w : Workload) (old : DiskSeen) (c d : ClusterView) (last : RunState) → HasStarted old w c → SameStart c d → Facts d
+    → last.device.state ≡ (disk_of d.parts).state → OnImages (KeepsBeyond w.geometry) c.began.state.told last.device.state.told
+beyond_of w old c d last h same facts state =
+    let run = facts.run in
+    let end = state_of (showing run.last d.parts) run.notes in
+    let B : Workload → DiskSeen → State → Type 0 = λ v b s. OnImages (KeepsBeyond v.geometry) b.state.told s.told in
+    let kept : B d.parts.workload d.began run.last.state =
+    run_beyond d.parts.workload (opening d.parts.workload d.began) run.calls end run.leads in
+    let here : B d.parts.workload d.began last.device.state = subst (λ (s : State). B d.parts.workload d.began s) (run.shown ∙ sym state) kept in
+    let began : B d.parts.workload c.began last.device.state = subst (λ (b : DiskSeen). B d.parts.workload b last.device.state) same.began here in
+    subst (λ (v : Workload). B v c.began last.device.state) (same_workload w old c d h same) began
+
 -- so its run is owed all, since the image handed in
 pub owed_of : (w : Workload) (old : DiskSeen) (c d : ClusterView) (last : RunState) → HasStarted old w c → SameStart c d → Facts d
     → last.device.state ≡ (disk_of d.parts).state → last.answers ≡ d.parts.ledger.answers → last.history ≡ d.parts.ledger.history
@@ -73,6 +87,7 @@ owed_of w old c d last h same facts state answers history = record {
   fits = fits_of w old c d last h same facts answers history;
   led = led_told w c.began.state.counter old.state.told c.began.state.told last h.images h.used h.opened.valid
       (leads_of w old c d last h same facts state history);
+  beyond = beyond_of w old c d last h same facts state;
 }
 
 -- and the volume that it leaves is valid

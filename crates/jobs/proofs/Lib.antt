@@ -1,3 +1,4 @@
+mod BeyondLaws
 mod CheckLaws
 mod ClusterLaws
 mod CommandLaws

@@ -41,11 +41,8 @@ is_foreign host of foreign own = let same = eq-eqb host of own in false≢true (
 
 -- a cluster knows each command that is built
 known_command : (host : ℕ) (c : Command) → IsTrue (not (is_own host c)) → is_built c ≡ true → IsKnown host c
-known_command host commands.Log foreign is = absurd (false≢true is)
-known_command host (commands.Scan file index) foreign is = absurd (false≢true is)
 known_command host commands.Merge foreign is = absurd (false≢true is)
 known_command host commands.Serve foreign is = absurd (false≢true is)
-known_command host (commands.Scribble place n digest) foreign is = absurd (false≢true is)
 known_command host (commands.Look of) foreign is = λ own. is_foreign host of foreign (sym own)
 known_command host (commands.Recover of) foreign is = λ own. is_foreign host of foreign (sym own)
 known_command host _ foreign is = tt

@@ -2,20 +2,17 @@
 use Rattle.std.specs.Prelude.{ℕ, Bool, true, false, List, Option, Some, None, Result, Ok, Err, find, not}
 use Rattle.std.specs.Option.{option_map}
 use Rattle.vol_base.specs.declared.command.Command.{Command}
-use Rattle.vol_base.specs.declared.command.Command.TheVariants.{Log, Merge, Scan, Scribble, Serve}
+use Rattle.vol_base.specs.declared.command.Command.TheVariants.{Merge, Serve}
 use Rattle.workload.specs.declared.cause.WorkloadNo.TheVariants.{Word}
 use Rattle.workload.specs.declared.line.Line.{Line}
 use Rattle.workload.specs.declared.line.Workload.{Workload}
 use Rattle.workload.specs.Checks.{◌>>=◌}
 use Rattle.workload.specs.Grammar.{Refusal, workload_of}
 
--- a command that is built: all but those on hints
+-- a command that is built: all but `merge` and `serve`
 abbrev pub is_built : Command → Bool
-is_built Log = false
-is_built (Scan file index) = false
 is_built Merge = false
 is_built Serve = false
-is_built (Scribble place n digest) = false
 is_built _ = true
 
 -- the number, in the text, of the first line that is not built

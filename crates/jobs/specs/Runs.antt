@@ -9,7 +9,7 @@ use Rattle.vol_layout.specs.Regions.{total}
 use Rattle.shared_disk.specs.Calls.{last_counter}
 use Rattle.shared_disk.specs.Prefixes.{EachImage}
 use Rattle.shared_disk.specs.Seen.{DiskSeen}
-use Rattle.shared_disk.specs.State.{State}
+use Rattle.shared_disk.specs.State.{OnImages, State}
 use Rattle.shared_disk.specs.Visits.{IsVisiting, after_visit}
 use Rattle.plain_files.specs.Plain.{Plain}
 use Rattle.plain_files.specs.declared.history.Placed.{Placed}
@@ -38,6 +38,7 @@ use Rattle.jobs.specs.declared.outcome.AfterRun.TheVariants as after_runs
 use Rattle.jobs.specs.declared.outcome.Outcome.{Outcome}
 use Rattle.jobs.specs.declared.outcome.Outcome.TheVariants as outcomes
 use Rattle.jobs.specs.declared.outcome.VolumeNo.TheVariants as refusals
+use Rattle.jobs.specs.Beyond.{KeepsBeyond}
 use Rattle.jobs.specs.Checks.{FindsBad, IsAtLast}
 
 -- the files of an image of this geometry, as plain files; a blank image has none
@@ -57,11 +58,12 @@ pub record Opens (g : Geometry) (old new : DiskSeen) : Type 0 where
 
 -- what holds of every run, wherever it stands: answers and history fit the workload; and, where the device tells its content, the history
 -- is legal from the files of the image handed in, the last image is valid and has the files that the history leaves, and each image
--- from the one handed in on has the files of a front of the history
+-- from the one handed in on has the files of a front of the history; and from the opening on nothing is written behind the volume's blocks
 pub record IsOwed (w : Workload) (old opened : DiskSeen) (last : RunState) : Type 0 where
   pub opens : Opens w.geometry old opened
   pub fits : Fits w.lines last.answers last.history
   pub led : IfSome old.state.told (λ told. IsLed w (files_of w.geometry told.image) old.state.told last)
+  pub beyond : OnImages (KeepsBeyond w.geometry) opened.state.told last.device.state.told
 
 -- the image is blank, or has no slot that is not free
 abbrev pub IsUnused : Geometry → Image → Type 0

@@ -12,7 +12,8 @@
 //!     opened; calls of a run, each of them a turn, a digest or the beginning of a phase as `host_runs` says it, lead from there to a state in
 //!     which no host has a command left, in the last phase; for `sim` they are the moves of the schedule, each digest the SHA-1 of its block;
 //!     each line has an answer; answers and history fit the workload; the history is legal from the files of the image handed in, the last image is valid and has the files that it
-//!     leaves, and each image from the one handed in on is blank or valid and has the files of a front. Where the workload is tidy, the image
+//!     leaves, and each image from the one handed in on is blank or valid and has the files of a front. From the opening on nothing is written
+//!     behind the volume's blocks (`KeepsBeyond`). Where the workload is tidy, the image
 //!     handed in is blank or has no host, and no call of the device failed, no command is busy or cut, and each file command of a joined host
 //!     has its plain reply, or `full` for a `write` (`served`). What is said of images holds where the device tells its image.
 //!   - Workload: the text is refused at its first faulty line with its first cause, or at its first line that is not built with the cause

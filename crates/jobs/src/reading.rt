@@ -82,11 +82,7 @@ fn is_built(command: &Command) -> bool
     ensures { result ≡ is_built command.now }
 {
     match *command {
-        Command::Log
-        | Command::Scan(_, _)
-        | Command::Merge
-        | Command::Serve
-        | Command::Scribble(_, _, _) => false,
+        Command::Merge | Command::Serve => false,
         _ => true,
     }
 }

@@ -1,6 +1,7 @@
 pub mod CallsLeft
 pub mod HostStays
 pub mod Joins
+pub mod KeptVolumes
 pub mod KnownTables
 pub mod LoneSteps
 pub mod Lones

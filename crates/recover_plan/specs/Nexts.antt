@@ -12,6 +12,7 @@ use Rattle.watch.specs.Looks.{count_of, look_at}
 use Rattle.host_facts.specs.Views.{WorldView}
 use Rattle.plan_parts.specs.Steps.{IsReady, OwesStep}
 use Rattle.recover_plan.specs.CallsLeft.{calls_left}
+use Rattle.recover_plan.specs.KeptVolumes.{VolumeStays}
 use Rattle.recover_plan.specs.KnownTables.{TablesStay}
 use Rattle.recover_plan.specs.Plans.{Agrees, Behind, StandsBehind, command_of, later_of, step_of}
 use Rattle.recover_plan.specs.declared.plan.Come.{Come}
@@ -59,4 +60,5 @@ pub record HasStepped (h : ℕ) (v w : WorldView) (watch after : List (Option Lo
   pub owes : OwesStep (command_of doing) h v w step (Agrees h v watch doing) (Behind h w after come)
   pub stands : StandsBehind w h after doing come
   pub tables : TablesStay h v w (command_of doing) step
+  pub volume : VolumeStays v w (command_of doing) step
   pub fewer : calls_left w h later < calls_left v h doing

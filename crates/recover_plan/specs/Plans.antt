@@ -17,6 +17,7 @@ use Rattle.host_facts.specs.Views.{WorldView}
 use Rattle.host_runs.specs.Notes.{Notes}
 use Rattle.plan_parts.specs.Steps.{IsReady, OwesStep}
 use Rattle.recover_plan.specs.CallsLeft.{calls_left}
+use Rattle.recover_plan.specs.KeptVolumes.{VolumeStays}
 use Rattle.recover_plan.specs.KnownTables.{TablesStay}
 use Rattle.recover_plan.specs.PlanSteps.{AreWatched, OpenNoted, RestsWith, called_step}
 use Rattle.recover_plan.specs.RecoverNotes.{IsUnderWay, StageNoted}
@@ -132,4 +133,5 @@ pub record Came (h : ℕ) (v w : WorldView) (watch after : List (Option Look)) (
   pub owes : OwesStep (command_of doing) h v w (step_of come) (Agrees h v watch doing) (Behind h w after come)
   pub stands : StandsBehind w h after doing come
   pub tables : TablesStay h v w (command_of doing) (step_of come)
+  pub volume : VolumeStays v w (command_of doing) (step_of come)
   pub fewer : calls_left w h (later_of come) < calls_left v h doing

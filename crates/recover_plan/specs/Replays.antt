@@ -1,11 +1,11 @@
 -- What one step of the recovery of a slot does.
-use Rattle.std.specs.Prelude.{◌≡◌, ◌≢◌, ◌<◌, ℕ, List, None, Option, Some}
+use Rattle.std.specs.Prelude.{◌≡◌, ◌≢◌, ◌<◌, ℕ, Contains, List, None, Option, Some}
 use Rattle.vol_base.specs.declared.block.Key.{Key}
 use Rattle.vol_layout.specs.declared.kind.Kind.TheVariants as kinds
 use Rattle.slot_lock_blocks.specs.declared.slot.Slot.TheVariants as slots
 use Rattle.host_facts.specs.Facts.Fact.{Given}
 use Rattle.host_facts.specs.Knows.{Knows}
-use Rattle.lock_store.specs.Memories.{claim_of}
+use Rattle.lock_store.specs.Memories.{claim_of, holds, reads}
 use Rattle.host_runs.specs.NotedCalls.{SwapsKind}
 use Rattle.vol_base.specs.declared.command.Command.{Command}
 use Rattle.shared_disk.specs.Events.{Event, Shows, event}
@@ -14,7 +14,10 @@ use Rattle.slot_lock_blocks.specs.declared.slot.Slot.{Slot}
 use Rattle.image_view.specs.Images.{block_at}
 use Rattle.disk_locks.specs.Sure.{BothTold, Sure}
 use Rattle.lock_store.specs.declared.answers.StepNo.{StepNo}
-use Rattle.lock_store.specs.Views.{host_at, key_at, told_of}
+use Rattle.lock_store.specs.Views.{host_at, key_at, keys_of, told_of}
+use Rattle.lock_store.specs.SlotTries.{slot_by}
+use Rattle.lock_store.specs.declared.answers.StepNo.TheVariants.{Fenced}
+use Rattle.vol_layout.specs.declared.kind.Resource.{Resource}
 use Rattle.watch.specs.declared.watch.Look.{Look}
 use Rattle.host_facts.specs.Views.{WorldView}
 use Rattle.host_notes.specs.Asked.{claim_call}
@@ -50,10 +53,15 @@ SlotsStay v w of =
     (λ i j. (y : ℕ) → y < v.locks.geometry.hosts → y ≢ of
     → block_at v.locks.geometry j (kinds.Slot y) ≡ block_at v.locks.geometry i (kinds.Slot y))
 
--- the slot from which the claim is to be made stands there
+-- it stands there, and another host recovers it, if any does
+pub record IsMet (v : WorldView) (h of : ℕ) (slot : Slot) : Type 0 where
+  pub there : IsThere v h of slot
+  pub other : slot_by slot ≢ key_at v.locks h
+
+-- the slot from which the claim is to be made stands there; while keys are to be taken off, none of them is the own one
 abbrev pub SeesSlot : WorldView → ℕ → ℕ → Replay → Type 0
-SeesSlot v h of (Fence slot) = IsThere v h of slot
-SeesSlot v h of (FenceBy slot) = IsThere v h of slot
+SeesSlot v h of (Fence slot) = IsMet v h of slot
+SeesSlot v h of (FenceBy slot) = IsMet v h of slot
 SeesSlot v h of (Claim slot) = IsThere v h of slot
 SeesSlot v h of stage = Unit {0}
 
@@ -63,10 +71,19 @@ SeesBehind w h of (More stage) = SeesSlot w h of stage
 SeesBehind w h of (Found from found) = IsThere w h of found × (told_of w.locks ≡ None)
 SeesBehind w h of (Ready dead) = Unit {0}
 
+-- the host's key is registered
+abbrev pub HasKey : WorldView → ℕ → Type 0
+HasKey v h = Contains (keys_of v.locks) (key_at v.locks h)
+
+-- the host holds and reads what it held and read
+pub record KeepsLocks (h : ℕ) (v w : WorldView) : Type 0 where
+  pub held : (r : Resource) → holds (host_at w.locks h) r ≡ holds (host_at v.locks h) r
+  pub read : (r : Resource) → reads (host_at w.locks h) r ≡ reads (host_at v.locks h) r
+
 -- one call was made: quiet in each command that recovers the slot; it shows no block where the slot is not claimed, but where the claim
 -- found another one; it makes no slot live, and leaves the slots of other hosts. What comes next stands, with fewer steps left. The host
--- keeps its key, knows still which keys the device gave and what its tables are, and sees the slot still that it is to claim; and if it
--- was ready for its next command, it is ready still
+-- keeps its key, its holds and its reads, knows still which keys the device gave and what its tables are, and sees the slot still that it
+-- is to claim; its key is registered, where the slot was seen; and if it was ready for its next command, it is ready still
 pub record Went (h of : ℕ) (v w : WorldView) (stage : Replay) (going : Going) : Type 0 where
   pub event : Event
   pub shown : IsShownBy h of v event going
@@ -80,12 +97,18 @@ pub record Went (h of : ℕ) (v w : WorldView) (stage : Replay) (going : Going) 
   pub tables : KeepsTables h v w
   pub slots : SlotsStay v w of
   pub sees : SeesSlot v h of stage → SeesBehind w h of going
+  pub registered : SeesSlot v h of stage → HasKey w h
+  pub locks : KeepsLocks h v w
   pub ready : IsReady v h → IsReady w h
   pub quiet : (command : Command) (watch : List (Option Look)) (k : ℕ) → Recovers command h of
       → QuietCall command h v w event (StageNoted command h of watch k v stage) (GoingNoted command h of watch k w going)
 
+-- a step is refused for want of a key only where the host's key is not registered
+abbrev pub IsShut : WorldView → ℕ → StepNo → Type 0
+IsShut v h why = why ≡ Fenced → HasKey v h → ⊥
+
 -- the step was refused, and cuts each such command
-abbrev pub IsCutAt : ℕ → ℕ → WorldView → WorldView → Replay → StepNo → Type 0
-IsCutAt h of v w stage why =
-    (command : Command) (watch : List (Option Look)) (k : ℕ) → Recovers command h of
-    → IsCutBy command h v w why (StageNoted command h of watch k v stage)
+pub record IsCutAt (h of : ℕ) (v w : WorldView) (stage : Replay) (why : StepNo) : Type 0 where
+  pub cuts : (command : Command) (watch : List (Option Look)) (k : ℕ) → Recovers command h of
+      → IsCutBy command h v w why (StageNoted command h of watch k v stage)
+  pub shut : IsShut v h why

@@ -26,15 +26,17 @@
 //!   entered, and any other one is answered `busy` with its key, or its `by`. Behind each answer but `joined` the host is dropped, and
 //!   behind each it remembers no slot (`IsLeftBy`).
 //! - `leave`: each step frees the lock of the first file that the host holds; once it holds none its slot is freed (`HasFreedSlot`); and the
-//!   last step takes its own key off. Then the answer is fine, and the host is dropped and remembers no slot.
+//!   last step takes its own key off. Then the answer is fine, and the host is dropped and remembers no slot. No step of it that is not cut
+//!   changes a logical number or a data block (`VolumeStays`).
 //! - `beat`, `look`: one call, and the answer. The slot that is read is remembered, seen once more or once (`look_answer`).
 //! - `recover`: below three looks the answer is `alive` with their count, without a call. A claim that finds another slot is answered by
 //!   it, but for one more claim from a live slot with the same key (`RecoverTo`); a slot that was swept is freed, and the host forgotten.
 //! - `join_at_once`, `recover_at_once`: a host that is alone joins, and recovers another one, without looks. Where the plan may make its step
 //!   (`LoneAt`), `LonePlan::next` makes one device call (`LoneStepped`): no file changes, the image is valid, the slots of other hosts are
-//!   as before, what comes next stands, and fewer steps are left (`lone_left`). At its end (`HasEnded`) the host is ready, and the other one's
-//!   slot is free; `busy` comes only where the device tells nothing, and `nokeys` only where its counter is at its end. A step that was refused
-//!   has its cause (`IsRefused`).
+//!   as before, and so is what the host holds and reads; its key is registered, once the device gave it; what comes next stands, and fewer
+//!   steps are left (`lone_left`). At its end (`HasEnded`) the host is ready, and the other one's slot is free; `busy` comes only where the
+//!   device tells nothing, and `nokeys` only where its counter is at its end. A step that was refused has its cause (`IsRefused`), and is
+//!   never refused for want of a key while the host's one is registered.
 #![tactic(auto)]
 
 mod join;

@@ -41,6 +41,7 @@ pub fn compare<L: Lone>(
     ensures compared { IfOk result (λ compared. IfSome (L.told lone.new) (λ t. IsCompared geometry t.image file index source compared)) }
     ensures moves { OnImages (Moves geometry file index) (L.told lone.old) (L.told lone.new) }
     ensures volume { L.volume lone.new ≡ geometry }
+    ensures began { L.began lone.new ≡ L.began lone.old }
     ensures count { L.answered lone.new ≤ L.answered lone.old + 18 }
     ensures stopped { IfErr result (IsStopped (L.stopped lone.new)) }
 {
@@ -79,6 +80,7 @@ pub fn is_hole<L: Lone>(
     ensures hole { IfOk result (λ hole. IfSome (L.told lone.new) (λ t. hole ≡ is_none (held geometry t.image spot.file spot.index))) }
     ensures moves { OnImages (Moves geometry spot.file spot.index) (L.told lone.old) (L.told lone.new) }
     ensures volume { L.volume lone.new ≡ geometry }
+    ensures began { L.began lone.new ≡ L.began lone.old }
     ensures count { L.answered lone.new ≤ L.answered lone.old + 18 }
     ensures stopped { IfErr result (IsStopped (L.stopped lone.new)) }
 {

@@ -18,7 +18,8 @@
 //!   representatives both (`IsGathered`).
 //!
 //! Not proved: that places are linked to the first one with equal bytes, which the code does. The memory that the list of blocks takes has no
-//! clause: it has an entry for each different block, of which a volume has at most 64,512. No host implements `Lone` yet.
+//! clause: it has an entry for each different block, of which a volume has at most 64,512. The host of `solo`
+//! implements `Lone`.
 #![tactic(auto)]
 
 mod candidates;

@@ -6,6 +6,7 @@ ghost use Rattle.settle.specs.declared.lone.LoneNo.{LoneNo};
 ghost use Rattle.settle.specs.Links.{Comes, Halts};
 ghost use Rattle.settle.specs.Stops.{IsStopped};
 ghost use Rattle.share_plans.specs.Places.{field_of};
+ghost use Rattle.shared_disk.specs.Seen.{DiskSeen};
 ghost use Rattle.shared_disk.specs.State.{OnImages, Told};
 ghost use Rattle.vol_layout.specs.declared.field.Field.{Field};
 ghost use Rattle.vol_layout.specs.declared.geometry.Geometry.{Geometry as Numbers};
@@ -41,6 +42,9 @@ pub trait Lone {
     /// What the device tells of its content, where it tells it.
     ghost told: { Self → Option Told };
 
+    /// The device as it was seen when the host began, which never changes.
+    ghost began: { Self → DiskSeen };
+
     /// How many calls of the device were answered.
     ghost answered: { Self → ℕ };
 
@@ -58,6 +62,7 @@ pub trait Lone {
         ensures reply { IfOk result (λ reply. IfSome (told self.old) (λ t. IsReplyOf (volume self.old) (PlainCall.Read file index) reply t.image)) }
         ensures same { told self.new ≡ told self.old }
         ensures volume { volume self.new ≡ volume self.old }
+        ensures began { began self.new ≡ began self.old }
         ensures count { answered self.new ≤ answered self.old + 3 }
         ensures stopped { IfErr result (IsStopped (stopped self.new)) };
 
@@ -70,6 +75,7 @@ pub trait Lone {
         ensures came { IfOk result (λ shared. OnImages (Comes (volume self.old) file index source shared) (told self.old) (told self.new)) }
         ensures refused { IfErr result (λ why. OnImages (Halts (volume self.old) file index source) (told self.old) (told self.new)) }
         ensures volume { volume self.new ≡ volume self.old }
+        ensures began { began self.new ≡ began self.old }
         ensures count { answered self.new ≤ answered self.old + 18 }
         ensures stopped { IfErr result (IsStopped (stopped self.new)) };
 }

@@ -37,6 +37,7 @@ pub fn settle_place<L: Lone>(
     ensures table { OnOk result (IsTable geometry (spot_at found.new.spots)) }
     ensures len { index_map_len found.new.spots ≤ index_map_len found.old.spots + 1 }
     ensures volume { L.volume lone.new ≡ geometry }
+    ensures began { L.began lone.new ≡ L.began lone.old }
     ensures count { IfSome (L.told lone.old) (λ t. NoClash geometry t.image → L.answered lone.new ≤ L.answered lone.old + most_calls geometry t.image spot.file spot.index) }
     ensures stopped { IfErr result (IsRefused (L.stopped lone.new)) }
 {
@@ -68,6 +69,7 @@ fn settle_block<L: Lone>(
     ensures table { OnOk result (IsTable geometry (spot_at found.new.spots)) }
     ensures len { index_map_len found.new.spots ≤ index_map_len found.old.spots + 1 }
     ensures volume { L.volume lone.new ≡ geometry }
+    ensures began { L.began lone.new ≡ L.began lone.old }
     ensures count { IfSome (L.told lone.old) (λ t. NoClash geometry t.image → L.answered lone.new ≤ L.answered lone.old + 36) }
     ensures stopped { IfErr result (IsRefused (L.stopped lone.new)) }
 {
@@ -100,6 +102,7 @@ fn settle_fresh<L: Lone>(
     ensures table { OnOk result (IsTable geometry (spot_at found.new.spots)) }
     ensures len { index_map_len found.new.spots ≤ index_map_len found.old.spots + 1 }
     ensures volume { L.volume lone.new ≡ geometry }
+    ensures began { L.began lone.new ≡ L.began lone.old }
     ensures count { L.answered lone.new ≤ L.answered lone.old + 18 }
     ensures stopped { IfErr result (IsRefused (L.stopped lone.new)) }
 {

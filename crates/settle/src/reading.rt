@@ -21,6 +21,7 @@ pub fn read_block<L: Lone>(
     ensures read { IfOk result (λ block. IfSome (L.told lone.old) (λ t. ReadsAs geometry t.image file index block)) }
     ensures same { L.told lone.new ≡ L.told lone.old }
     ensures volume { L.volume lone.new ≡ geometry }
+    ensures began { L.began lone.new ≡ L.began lone.old }
     ensures count { L.answered lone.new ≤ L.answered lone.old + 3 }
     ensures stopped { IfErr result (IsStopped (L.stopped lone.new)) }
 {

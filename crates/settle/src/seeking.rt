@@ -43,6 +43,7 @@ pub fn seek<L: Lone>(
     ensures numbered { IfOk result (IsNumbered (spot_at found.now.spots) digest) }
     ensures moves { OnImages (Moves geometry spot.file spot.index) (L.told lone.old) (L.told lone.new) }
     ensures volume { L.volume lone.new ≡ geometry }
+    ensures began { L.began lone.new ≡ L.began lone.old }
     ensures count { (n : ℕ) → spot_at found.now.spots digest n ≡ None → L.answered lone.new ≤ L.answered lone.old + 18 * n }
     ensures stopped { IfErr result (IsRefused (L.stopped lone.new)) }
 {

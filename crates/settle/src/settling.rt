@@ -42,6 +42,7 @@ pub fn settle<L: Lone>(alloc: Global, lone: &mut L) -> Result<Settled, LoneNo>
     ensures distinct { IfOk result (λ settled. IfSome (L.told lone.old) (λ t. HasContents (L.volume lone.old) t.image settled.distinct)) }
     ensures count { IfSome (L.told lone.old) (λ t. NoClash (L.volume lone.old) t.image
         → L.answered lone.new ≤ L.answered lone.old + (40 * places_of (L.volume lone.old) t.image + 4 * (L.volume lone.old).files)) }
+    ensures began { L.began lone.new ≡ L.began lone.old }
     ensures stopped { IfErr result (IsRefused (L.stopped lone.new)) }
 {
     let geometry = lone.geometry();
@@ -72,6 +73,7 @@ fn settle_files<L: Lone>(
     ensures cut { IfErr result (λ why. OnImages (IsCut geometry (most_in_all geometry) (L.answered lone.old) (L.answered lone.new)) (L.told lone.old) (L.told lone.new)) }
     ensures len { index_map_len found.new.spots ≤ 16128 * geometry.files }
     ensures volume { L.volume lone.new ≡ geometry }
+    ensures began { L.began lone.new ≡ L.began lone.old }
     ensures stopped { IfErr result (IsRefused (L.stopped lone.new)) }
 {
     let mut live = 0;
@@ -104,6 +106,7 @@ fn settle_file<L: Lone>(
     ensures table { OnOk result (IsTable geometry (spot_at found.new.spots)) }
     ensures len { index_map_len found.new.spots ≤ index_map_len found.old.spots + 16128 }
     ensures volume { L.volume lone.new ≡ geometry }
+    ensures began { L.began lone.new ≡ L.began lone.old }
     ensures stopped { IfErr result (IsRefused (L.stopped lone.new)) }
 {
     let mut live = 0;

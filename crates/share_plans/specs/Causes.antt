@@ -1,12 +1,13 @@
 -- What each answer of a share says of the volume.
 use Rattle.std.specs.Prelude.{◌≡◌, ◌≢◌, ◌<◌, ◌+◌, ℕ, List, [], None, Option, Some, slice_index}
-use Rattle.vol_layout.specs.declared.field.Field.TheVariants.{Slot}
+use Rattle.vol_layout.specs.declared.field.Field.TheVariants.{Count, Slot}
 use Rattle.vol_layout.specs.declared.geometry.Geometry.{Geometry}
 use Rattle.vol_layout.specs.declared.kind.Kind.TheVariants as kinds
+use Rattle.vol_layout.specs.Fields.{HasField}
 use Rattle.image_view.specs.Images.{Image, block_at}
 use Rattle.image_view.specs.Links.{IsLink}
 use Rattle.image_view.specs.Numbers.{field}
-use Rattle.image_view.specs.Records.{IsEdited}
+use Rattle.call_effects.specs.Changes.{Changes}
 use Rattle.lock_store.specs.Views.{key_at, told_of}
 use Rattle.disk_locks.specs.Sure.{BothTold}
 use Rattle.host_facts.specs.Views.{WorldView}
@@ -51,21 +52,26 @@ Differ g image core (stages.ReadsOwn pair block) at =
     HavePair g image core pair × IsApartAt (block_at g image (kinds.Number pair.own)) (block_at g image (kinds.Number pair.source)) at
 Differ g image core stage at = ⊥
 
--- both were there with two data blocks of equal bytes, and the place is linked to the source
+-- every data block keeps its bytes
+abbrev pub KeepsBlocks : Geometry → Image → Image → Type 0
+KeepsBlocks g old new = (d : ℕ) → HasField g (Count d) → block_at g new (kinds.Number d) ≡ block_at g old (kinds.Number d)
+
+-- both were there with two data blocks of equal bytes, and the place is linked to the source; every data block stays
 abbrev pub AreLinked : Geometry → Image → Image → Core → Stage → Type 0
 AreLinked g old new core (stages.Commits pair group other) =
-    HavePair g old core pair × IsLink g old new core.file core.index (field_of core.source)
+    HavePair g old core pair × IsLink g old new core.file core.index (field_of core.source) × KeepsBlocks g old new
 AreLinked g old new core stage = ⊥
 
--- what an answer says of the image before the call at which it was found, and of that behind it; no logical number changes but by a link
+-- what an answer says of the image before the call at which it was found, and of that behind it; no logical number and no data block
+-- changes but by a link
 abbrev pub IsCause : Geometry → Core → Stage → Shared → Image → Image → Type 0
 IsCause g core stage answers.Linked old new = AreLinked g old new core stage
 IsCause g core stage answers.Already old new =
-    ((d : ℕ) × HasOwn g old core d × HasBlock g old core.source d) × IsEdited g old new []
-IsCause g core stage (answers.Differs at) old new = Differ g old core stage at × IsEdited g old new []
-IsCause g core stage answers.Hole old new = (shown_at g old core.file core.index ≡ None) × IsEdited g old new []
-IsCause g core stage answers.NoSource old new = HasNoSource g old core core.source stage × IsEdited g old new []
-IsCause g core stage (answers.Busy key) old new = IsEdited g old new []
+    ((d : ℕ) × HasOwn g old core d × HasBlock g old core.source d) × Changes g [] None old new
+IsCause g core stage (answers.Differs at) old new = Differ g old core stage at × Changes g [] None old new
+IsCause g core stage answers.Hole old new = (shown_at g old core.file core.index ≡ None) × Changes g [] None old new
+IsCause g core stage answers.NoSource old new = HasNoSource g old core core.source stage × Changes g [] None old new
+IsCause g core stage (answers.Busy key) old new = Changes g [] None old new
 
 -- a key that was shown is another host's
 abbrev pub IsOtherKey : WorldView → ℕ → Shared → Type 0

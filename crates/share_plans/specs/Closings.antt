@@ -13,6 +13,7 @@ use Rattle.host_facts.specs.Views.{WorldView}
 use Rattle.plan_parts.specs.Applies.{IsApplying}
 use Rattle.plan_parts.specs.QuietCalls.{Quiet}
 use Rattle.plan_parts.specs.TakenLocks.{IsTaking}
+use Rattle.share_plans.specs.HintSpares.{SparesHints}
 use Rattle.share_plans.specs.declared.closing.Closing.{Closing}
 use Rattle.share_plans.specs.declared.closing.Closing.TheVariants.{Applies, Frees}
 
@@ -48,11 +49,13 @@ pub record KeepsHolds (h : ℕ) (v w : WorldView) : Type 0 where
 abbrev pub ChangesNothing : WorldView → WorldView → Type 0
 ChangesNothing v w = BothTold (told_of v.locks) (told_of w.locks) (Changes v.locks.geometry [] None)
 
--- what a step did: fewer are left, and nothing changed but tables, the journal and locks
+-- what a step did: fewer are left, and nothing changed but tables, the journal and locks; its call is
+-- at no block of hints
 pub record Closes (h : ℕ) (v w : WorldView) (taken after : List Resource) (closing : Closing) (next : Option Closing) : Type 0 where
   pub keeps : KeepsHolds h v w
   pub stands : StandsClosed w h after next
   pub changes : ChangesNothing v w
   pub less : closing_left after next < closing_left taken (Some closing)
   pub event : Event
+  pub spares : SparesHints v.locks.geometry event.call
   pub quiet : Quiet h v w event

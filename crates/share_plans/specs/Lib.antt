@@ -2,6 +2,7 @@ pub mod Causes
 pub mod Closings
 pub mod GatheringSteps
 pub mod Gatherings
+pub mod HintSpares
 pub mod Lefts
 pub mod LinkRecords
 pub mod Places

@@ -12,7 +12,7 @@ use Rattle.image_view.specs.declared.pointer.Number.TheVariants as numbers
 use Rattle.image_view.specs.Images.{Image}
 use Rattle.image_view.specs.Links.{marked}
 use Rattle.image_view.specs.Numbers.{logical}
-use Rattle.image_view.specs.Records.{IsEdited}
+use Rattle.call_effects.specs.Changes.{Changes}
 use Rattle.call_effects.specs.Promotions.{promoted}
 use Rattle.table_blocks.specs.Tables.{number_in}
 use Rattle.lock_store.specs.Memories.{holds}
@@ -29,6 +29,7 @@ use Rattle.plan_parts.specs.declared.kept.Kept.{Kept}
 use Rattle.plan_parts.specs.declared.outcome.Outcome.{Outcome}
 use Rattle.plan_parts.specs.declared.outcome.Outcome.TheVariants as outcomes
 use Rattle.share_plans.specs.Closings.{ChangesNothing, IsClosing, KeepsHolds, closing_left, rest_of}
+use Rattle.share_plans.specs.HintSpares.{SparesHints}
 use Rattle.share_plans.specs.Lefts.{missing_at}
 use Rattle.share_plans.specs.Places.{shown_at}
 use Rattle.share_plans.specs.ReadTables.{Known, kept_in}
@@ -125,30 +126,30 @@ pub record IsLowestEmpty (g : Geometry) (image : Image) (p t : ℕ) : Type 0 whe
   pub lowest : (s : ℕ) → s / per_table ≡ p → s < t → logical g image (Slot s) ≢ 0
 
 -- the block had no mark and was named once; the lowest empty slot of the host's own part names it, its pointer has the mark, and its count is
--- 2. No other number changed
+-- 2. No other number and no data block changed
 pub record IsPromotion (g : Geometry) (core : Promotion) (t : ℕ) (old new : Image) : Type 0 where
   pub block : ℕ
   pub own : HasOwn g old core block (block + 1)
   pub once : logical g old (Count block) ≡ 1
   pub slot : IsLowestEmpty g old (own_part g core.host) t
-  pub edits : IsEdited g old new (promoted t core.file core.index block)
+  pub changes : Changes g (promoted t core.file core.index block) None old new
 
 -- what an answer says of the image before the call at which it was found, and of that behind it
 abbrev pub IsCause : Geometry → Promotion → Promoted → Image → Image → Type 0
 IsCause g core (answers.Promoted t) old new = IsPromotion g core t old new
-IsCause g core answers.Marked old new = ((d : ℕ) × HasOwn g old core d (marked d)) × IsEdited g old new []
-IsCause g core answers.Hole old new = (shown_at g old core.file core.index ≡ None) × IsEdited g old new []
+IsCause g core answers.Marked old new = ((d : ℕ) × HasOwn g old core d (marked d)) × Changes g [] None old new
+IsCause g core answers.Hole old new = (shown_at g old core.file core.index ≡ None) × Changes g [] None old new
 IsCause g core answers.PartFull old new =
     ((d : ℕ) × HasOwn g old core d (d + 1))
-    × ((s : ℕ) → HasField g (Slot s) → s / per_table ≡ own_part g core.host → logical g old (Slot s) ≢ 0) × IsEdited g old new []
-IsCause g core (answers.Busy key) old new = IsEdited g old new []
+    × ((s : ℕ) → HasField g (Slot s) → s / per_table ≡ own_part g core.host → logical g old (Slot s) ≢ 0) × Changes g [] None old new
+IsCause g core (answers.Busy key) old new = Changes g [] None old new
 
 -- a key that was shown is another host's
 abbrev pub IsOtherKey : WorldView → ℕ → Promoted → Type 0
 IsOtherKey v h (answers.Busy key) = key.0 ≢ key_at v.locks h
 IsOtherKey v h answer = Unit {0}
 
--- what a step did about the answer; no logical number changes but by a promotion
+-- what a step did about the answer; no logical number changes but by a promotion, and no data block
 abbrev pub HasAnswered : WorldView → WorldView → Promotion → Option Promoted → Option Promoted → Type 0
 HasAnswered v w core None None = ChangesNothing v w
 HasAnswered v w core None (Some answer) =
@@ -180,7 +181,7 @@ pub record IsSame (old new : Promotion) : Type 0 where
   pub file : new.file ≡ old.file
   pub index : new.index ≡ old.index
 
--- a step made its one call, which changed no file: its turn may make it in a command of which the promotion is a part, and the notes agree
+-- a step made its one call, at no block of hints, which changed no file: its turn may make it in a command of which the promotion is a part, and the notes agree
 -- behind it, with what the promotion then came to
 pub record Went (v w : WorldView) (old new : Promotion) (stage : Doing) (came : Reached) : Type 0 where
   pub same : IsSame old new
@@ -189,6 +190,7 @@ pub record Went (v w : WorldView) (old new : Promotion) (stage : Doing) (came : 
   pub answers_are : HasAnswered v w old (answer_at stage) (answer_of came)
   pub less : left_behind new came < left old stage
   pub event : Event
+  pub spares : SparesHints v.locks.geometry event.call
   pub quiet : (command : Command) → MayShare command
       → QuietCall command old.host v w event (Noted command old.host v (outcome_by (answer_at stage)))
       (Noted command old.host w (outcome_by (answer_of came)))

@@ -14,6 +14,7 @@ use Rattle.plan_parts.specs.declared.outcome.Outcome.{Outcome}
 use Rattle.plan_parts.specs.declared.outcome.Outcome.TheVariants as outcomes
 use Rattle.share_plans.specs.Causes.{HasAnswered}
 use Rattle.share_plans.specs.Closings.{KeepsHolds, rest_of}
+use Rattle.share_plans.specs.HintSpares.{SparesHints}
 use Rattle.share_plans.specs.Lefts.{left, left_behind}
 use Rattle.share_plans.specs.Stands.{At, HasPlaces}
 use Rattle.share_plans.specs.declared.closing.Closing.{Closing}
@@ -60,7 +61,7 @@ pub record IsSame (old new : Core) : Type 0 where
   pub index : new.index ≡ old.index
   pub source : new.source ≡ old.source
 
--- a step made its one call, which changed no file: its turn may make it in a command of which the share is a part, and the notes agree
+-- a step made its one call, at no block of hints, which changed no file: its turn may make it in a command of which the share is a part, and the notes agree
 -- behind it, with what the share then came to
 pub record Went (v w : WorldView) (old new : Core) (stage : Stage) (came : Came) : Type 0 where
   pub same : IsSame old new
@@ -69,6 +70,7 @@ pub record Went (v w : WorldView) (old new : Core) (stage : Stage) (came : Came)
   pub answers_are : HasAnswered v w old stage (answer_at stage) (answer_of came)
   pub less : left_behind new came < left old stage
   pub event : Event
+  pub spares : SparesHints v.locks.geometry event.call
   pub quiet : (command : Command) → MayShare command
       → QuietCall command old.host v w event (Noted command old.host v (outcome_by (answer_at stage)))
       (Noted command old.host w (outcome_by (answer_of came)))

@@ -21,6 +21,7 @@ pub mod PromoteStages
 pub mod PromoteStays
 pub mod PromoteSteps
 pub mod ShareStays
+pub mod SpareLaws
 pub mod SpentLaws
 pub mod SpotLaws
 pub mod StepLaws

@@ -7,9 +7,12 @@
 //!   which a share may be a part (`MayShare`), the files stay on every told image, which stays valid, and the notes of a run agree behind it: a
 //!   busy lock has been shown there exactly where the share came to `Busy`. The host keeps its holds of files (`KeepsHolds`), what comes next
 //!   stands, and what other hosts rely on stays (`Others`). Fewer steps are left, and at most eighteen come.
-//! - No step changes a logical number but the one that comes to `Linked`, which is the commit of the link (`HasAnswered`): there the place and
-//!   the source had two data blocks with equal bytes, and this is the step by which they become one (`IsLink`): the place's pointer names
-//!   the source's data block with the mark, a file source gets the mark, one count falls and the other rises by one.
+//! - No step changes a data block, and none a logical number but the one that comes to `Linked`, which is the commit of the link
+//!   (`HasAnswered`, `KeepsBlocks`): there the place and the source had two data blocks with equal bytes, and this is the step by which they
+//!   become one (`IsLink`): the place's pointer names the source's data block with the mark, a file source gets the mark, one count falls and
+//!   the other rises by one.
+//! - No call of a share or a promotion is at a block of hints (`SparesHints`): so what a larger command reads and writes of hints is what its
+//!   own calls do (`sum_spared`, `shows_no_hints`, `writes_no_hints`).
 //! - Each answer has its cause at the call at which it is found (`IsCause`), and stays while locks are freed. `Hole`: the file has no block
 //!   at the index. `NoSource`: the place has one, and the source has none; of a slot, its table had 0 at the first read, or another number at
 //!   the second than at the first. `Already`: both have one data block. `Differs`: two data blocks, whose bytes differ there for the first
@@ -35,7 +38,7 @@
 //!   with it (`collect_still`, `collect_noted_still`).
 //!
 //! Over a device that tells nothing a count at its greatest number stays as it is; over one that tells, a link always has room for one more.
-//! The merge, the serving of requests and the settling of a volume will call the plans of sharing, and none does yet.
+//! The serving of requests (`serve_plan`) and a host that is alone (`solo`) call the plans of sharing; a merge will.
 #![tactic(auto)]
 
 mod closing;

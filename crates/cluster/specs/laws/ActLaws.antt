@@ -17,7 +17,7 @@ use Rattle.host_runs.specs.Steps.{IsStep}
 use Rattle.host_runs.specs.laws.NextLineLaws.{next-at}
 use Rattle.host_runs.specs.laws.SeatedLaws.{rests-seated}
 use Rattle.lock_store.specs.Views.{host_at}
-use Rattle.recover_plan.specs.PlanSteps.{RestsWith}
+use Rattle.cluster.specs.Plans.{RestsWith}
 use Rattle.cluster.specs.Agreements.{Agree, IsKnownLine, IsSound, IsStanding, IsSteady}
 use Rattle.cluster.specs.Parts.{HasActed, IsCommandAt, IsNoted, IsOpenFrom, IsStepped, MayStep, acted, asked_by, noted_in, opened}
 use Rattle.cluster.specs.Seats.{IsKnown, PlanNotedOf, PlanStandsOf, joined_of}
@@ -49,8 +49,8 @@ module _ (v : PartsView) (h position : ℕ) (line : Line) (sound : IsSound v) (s
       cases : (plan : Option Plan) → (seat_at v h).plan ≡ plan
           → joined_of v.world h line.command plan ≡ is_joined v.workload.lines v.ledger.answers h
       cases None none =
-          let rests : RestsWith h v.world (seat_at v h).watch (steady.notes h) =
-          subst (λ (p : Option Plan). PlanNotedOf (at_command v h) v.world h (seat_at v h).watch p (steady.notes h)) none (steady.agree.noted h below) in
+          let rests : RestsWith h v.world (seat_at v h).carried (steady.notes h) =
+          subst (λ (p : Option Plan). PlanNotedOf (at_command v h) v.world h (seat_at v h).carried p (steady.notes h)) none (steady.agree.noted h below) in
           sym (some_number (host_at v.world.locks h).key) ∙ ap is_some (sym rests.rests.remembered.key)
           ∙ rests-seated v.workload (state_of v steady.notes) h (steady.seated h) (ap (λ (n : Notes). n.calls) rests.rests.between)
       cases (Some plan) some =
@@ -65,10 +65,10 @@ module _ (v : PartsView) (h position : ℕ) (line : Line) (sound : IsSound v) (s
       record {
         known = subst (λ (x : ℕ). IsKnown x line.command) of (all_at IsKnownLine v.workload.lines position line sound.known is);
         range = (all_at (IsAllowed v.workload.geometry) v.workload.lines position line sound.allowed is).range;
-        stands = subst (λ (c : Command). PlanStandsOf c v.world v.cache h (seat_at v h).watch (seat_at v h).plan) there (standing.stands h below);
+        stands = subst (λ (c : Command). PlanStandsOf c v.world v.cache h (seat_at v h).carried (seat_at v h).plan) there (standing.stands h below);
         noted = (
           steady.notes h,
-          subst (λ (c : Command). PlanNotedOf c v.world h (seat_at v h).watch (seat_at v h).plan (steady.notes h)) there (steady.agree.noted h below),
+          subst (λ (c : Command). PlanNotedOf c v.world h (seat_at v h).carried (seat_at v h).plan (steady.notes h)) there (steady.agree.noted h below),
         );
         asks = asks;
       }

@@ -20,7 +20,7 @@ use Rattle.host_runs.specs.Steps.{IsStep}
 use Rattle.host_runs.specs.laws.FitLaws.{noting-here, noting-other}
 use Rattle.host_runs.specs.laws.NextLineLaws.{next-other}
 use Rattle.host_runs.specs.lemmas.StepLaws.{answers-here, answers-other, line_host}
-use Rattle.watch.specs.declared.watch.Look.{Look}
+use Rattle.cluster.specs.declared.carried.Carried.{Carried}
 use Rattle.cluster.specs.Agreements.{Agree, IsSound, IsStanding, IsSteady}
 use Rattle.cluster.specs.Parts.{HasActed, acted}
 use Rattle.cluster.specs.Seats.{PlanNotedOf, PlanStandsOf, death_behind, joined_of}
@@ -32,15 +32,15 @@ use Rattle.cluster.specs.laws.StaysLaws.{noted_stays, stands_stay}
 use Rattle.cluster.specs.laws.TurnedLaws.{command_there, line_there, step_of, turn_of}
 
 -- a seat without a plan says nothing of a command
-noted_any : (c e : Command) (v : WorldView) (h : ℕ) (watch : List (Option Look)) (plan : Option Plan) (n : Notes) → plan ≡ None
-    → PlanNotedOf c v h watch plan n → PlanNotedOf e v h watch plan n
-noted_any c e v h watch None n none noted = noted
-noted_any c e v h watch (Some plan) n none noted = absurd cc
+noted_any : (c e : Command) (v : WorldView) (h : ℕ) (carried : Carried) (plan : Option Plan) (n : Notes) → plan ≡ None
+    → PlanNotedOf c v h carried plan n → PlanNotedOf e v h carried plan n
+noted_any c e v h carried None n none noted = noted
+noted_any c e v h carried (Some plan) n none noted = absurd cc
 
-stands_any : (c e : Command) (v : WorldView) (k : Cache) (h : ℕ) (watch : List (Option Look)) (plan : Option Plan) → plan ≡ None
-    → PlanStandsOf c v k h watch plan → PlanStandsOf e v k h watch plan
-stands_any c e v k h watch None none stands = stands
-stands_any c e v k h watch (Some plan) none stands = absurd cc
+stands_any : (c e : Command) (v : WorldView) (k : Cache) (h : ℕ) (carried : Carried) (plan : Option Plan) → plan ≡ None
+    → PlanStandsOf c v k h carried plan → PlanStandsOf e v k h carried plan
+stands_any c e v k h carried None none stands = stands
+stands_any c e v k h carried (Some plan) none stands = absurd cc
 
 no_plan : (plan : Option Plan) → is_some plan ≡ false → plan ≡ None
 no_plan None is = refl
@@ -70,10 +70,10 @@ module _ (v : PartsView) (h position : ℕ) (line : Line) (w : WorldView) (d : C
 
   -- the seats
   seat_here : seat_at u h ≡ seat
-  seat_here = get_or-set_same v.seats h seat resting (let n = sound.seats in omega (arith, below, n))
+  seat_here = get_or-set_same v.seats h seat (resting v.workload.geometry) (let n = sound.seats in omega (arith, below, n))
 
   seat_other : (k : ℕ) → k ≢ h → seat_at u k ≡ seat_at v k
-  seat_other k other = get_or-set_other v.seats h k seat resting other
+  seat_other k other = get_or-set_other v.seats h k seat (resting v.workload.geometry) other
 
   -- the lines
   pub line_host_is : line.host ≡ h
@@ -128,18 +128,18 @@ module _ (v : PartsView) (h position : ℕ) (line : Line) (w : WorldView) (d : C
   command_by None e = inl (command_there u h line (line_still e))
   command_by (Some answer) e = inr (no_plan seat.plan (plan_of (Some answer) e))
 
-  noted_now : (n : Notes) → PlanNotedOf line.command w h seat.watch seat.plan n → PlanNotedOf (at_command u h) w h seat.watch seat.plan n
+  noted_now : (n : Notes) → PlanNotedOf line.command w h seat.carried seat.plan n → PlanNotedOf (at_command u h) w h seat.carried seat.plan n
   noted_now n noted =
       elim (command_by done.ended refl) [
-        | inl same ↦ subst (λ (c : Command). PlanNotedOf c w h seat.watch seat.plan n) (sym same) noted
-        | inr none ↦ noted_any line.command (at_command u h) w h seat.watch seat.plan n none noted
+        | inl same ↦ subst (λ (c : Command). PlanNotedOf c w h seat.carried seat.plan n) (sym same) noted
+        | inr none ↦ noted_any line.command (at_command u h) w h seat.carried seat.plan n none noted
       ]
 
-  stands_now : PlanStandsOf (at_command u h) w d h seat.watch seat.plan
+  stands_now : PlanStandsOf (at_command u h) w d h seat.carried seat.plan
   stands_now =
       elim (command_by done.ended refl) [
-        | inl same ↦ subst (λ (c : Command). PlanStandsOf c w d h seat.watch seat.plan) (sym same) act.made.stands
-        | inr none ↦ stands_any line.command (at_command u h) w d h seat.watch seat.plan none act.made.stands
+        | inl same ↦ subst (λ (c : Command). PlanStandsOf c w d h seat.carried seat.plan) (sym same) act.made.stands
+        | inr none ↦ stands_any line.command (at_command u h) w d h seat.carried seat.plan none act.made.stands
       ]
 
   volume_below : (k : ℕ) → k < v.workload.geometry.hosts → k < v.world.locks.geometry.hosts
@@ -156,7 +156,7 @@ module _ (v : PartsView) (h position : ℕ) (line : Line) (w : WorldView) (d : C
               rw (same, seat_here, noting-here h h later notes refl) (noted_now later noted)
           | inr other ↦
               rw (seat_other k other, command_other k other, noting-other h k later notes other)
-              (noted_stays v.world w v.cache d k h consistent act.others act.leaves other (volume_below k host) (seat_at v k).watch
+              (noted_stays v.world w v.cache d k h consistent act.others act.leaves other (volume_below k host) (seat_at v k).carried
               (at_command v k) (seat_at v k).plan (notes k) (standing.stands k host) (agree.noted k host))
         ];
         left = λ k host. elim (cases_eq k h) [
@@ -185,7 +185,7 @@ module _ (v : PartsView) (h position : ℕ) (line : Line) (w : WorldView) (d : C
       | inl same ↦ rw (same, seat_here) stands_now
       | inr other ↦
           rw (seat_other k other, command_other k other)
-          (stands_stay v.world w v.cache d k h consistent act.others act.leaves other (volume_below k host) (seat_at v k).watch
+          (stands_stay v.world w v.cache d k h consistent act.others act.leaves other (volume_below k host) (seat_at v k).carried
           (at_command v k) (seat_at v k).plan (standing.stands k host))
     ];
     busy = λ k host busy. elim (cases_eq k h) [

@@ -1,5 +1,5 @@
 -- The answers `up`, `down`, and that of a `die`, are turns of their host.
-use Rattle.std.proofs.Common.{◌≡◌, ◌≢◌, ◌⊎◌, inl, inr, ℕ, suc, zero, Bool, true, false, List, [], Option, Some, None, is_some, if◌then◌else◌, refl, ap, sym, subst, ◌∙◌, arith}
+use Rattle.std.proofs.Common.{◌≡◌, ◌≢◌, ◌⊎◌, inl, inr, ℕ, suc, zero, Bool, true, false, [], Option, Some, None, is_some, if◌then◌else◌, refl, ap, sym, subst, ◌∙◌, arith}
 use Rattle.vol_base.specs.declared.answer.Answer.{Answer}
 use Rattle.vol_base.specs.declared.answer.Answer.TheVariants as answers
 use Rattle.vol_base.specs.declared.command.Command.{Command}
@@ -18,19 +18,19 @@ use Rattle.lock_store.specs.Memories.{dropped}
 use Rattle.lock_store.specs.Views.{host_at}
 use Rattle.plan_parts.specs.Steps.{IsReady}
 use Rattle.plan_parts.specs.laws.QuietCallLaws.{valid_now}
-use Rattle.recover_plan.specs.PlanSteps.{RestsWith}
 use Rattle.recover_plan.specs.laws.JoinFinds.{dropped_rests, others_dropped}
 use Rattle.plan_parts.specs.laws.NoCallLaws.{others_same}
 use Rattle.file_plans.specs.Went.{LeavesOthers}
 use Rattle.host_facts.specs.Others.{Others}
 use Rattle.recover_plan.specs.laws.RegisterLaws.{nothing_watched}
 use Rattle.recover_plan.specs.laws.StepLaws.{ready_rests}
-use Rattle.watch.specs.declared.watch.Look.{Look}
+use Rattle.cluster.specs.declared.carried.Carried.{Carried}
+use Rattle.cluster.specs.Carries.{fresh}
 use Rattle.watch.specs.Looks.{nothing}
 use Rattle.cluster.specs.Dropping.{IsAnsweredAtOnce, IsDroppedIn}
 use Rattle.host_runs.specs.lemmas.OrderlyPlaced.{some_same}
 use Rattle.cluster.specs.HostTurns.{IsHostTurn, turn_moment}
-use Rattle.cluster.specs.Plans.{IsResting}
+use Rattle.cluster.specs.Plans.{IsResting, RestsWith}
 use Rattle.cluster.specs.Seats.{IsKnown, IsLeft, MakesTurn, PlanNotedOf, at_once, joined_of}
 use Rattle.cluster.specs.declared.plan.Plan.{Plan}
 use Rattle.cluster.specs.declared.seat.Seat.{Seat}
@@ -38,9 +38,9 @@ use Rattle.cluster.specs.laws.AtOnceTurns.{IsAtOnce, at_once_turn, dropped_locks
 use Rattle.cluster.specs.laws.SlotSteps.{nothing_cached}
 
 -- a host between two commands holds locks of files alone, and has not left its slot
-resting_locks : (v : WorldView) (h : ℕ) (n : Notes) (watch : List (Option Look)) → Consistent v.locks → RestsWith h v watch n
+resting_locks : (v : WorldView) (h : ℕ) (n : Notes) (carried : Carried) → Consistent v.locks → RestsWith h v carried n
     → AreFileLocks v.locks.geometry n.memory.holds × (n.memory.left ≡ false)
-resting_locks v h n watch c rests = cases rests.rests.rests
+resting_locks v h n carried c rests = cases rests.rests.rests
   where
     cases : IsReady v h ⊎ (host_at v.locks h ≡ dropped) → AreFileLocks v.locks.geometry n.memory.holds × (n.memory.left ≡ false)
     cases (inl ready) = ready_rests v h v.locks.geometry n.memory c refl ready rests.rests.remembered
@@ -55,28 +55,28 @@ abbrev rested : Command → Answer → Notes → Notes
 rested command answer n = at_rest (memory_after answer command n.memory) (dying_after answer command n.dying)
     (if drops answer command then [] else n.pending) (if drops answer command then nothing else n.watch)
 
-module _ (v : WorldView) (c : Cache) (h : ℕ) (watch : List (Option Look)) (consistent : Consistent v.locks) where
+module _ (v : WorldView) (c : Cache) (h : ℕ) (carried : Carried) (consistent : Consistent v.locks) where
   abbrev joined : Bool
   joined = is_some (host_at v.locks h).key
 
   abbrev g : Geometry
   g = v.locks.geometry
 
-  waits : (command : Command) (n : Notes) → first_block g command ≡ None → RestsWith h v watch n
+  waits : (command : Command) (n : Notes) → first_block g command ≡ None → RestsWith h v carried n
       → wanted g command n.calls n.digests n.asks ≡ None
   waits command n none rests = ap (λ (m : Notes). wanted g command m.calls m.digests m.asks) rests.rests.between ∙ none
 
   -- the memory behind an answer by which the host is not dropped, and behind one by which it is
-  memory_locks : (command : Command) (answer : Answer) (n : Notes) → RestsWith h v watch n
+  memory_locks : (command : Command) (answer : Answer) (n : Notes) → RestsWith h v carried n
       → AreFileLocks g (memory_after answer command n.memory).holds × ((memory_after answer command n.memory).left ≡ false)
   memory_locks command answer n rests = cases (drops answer command)
     where
       cases : (b : Bool) → AreFileLocks g (if b then no_memory else n.memory).holds × ((if b then no_memory else n.memory).left ≡ false)
       cases true = (nothing_held g, refl)
-      cases false = resting_locks v h n watch consistent rests
+      cases false = resting_locks v h n carried consistent rests
 
   -- `up`
-  up_is : (n : Notes) → joined ≡ true → RestsWith h v watch n
+  up_is : (n : Notes) → joined ≡ true → RestsWith h v carried n
       → IsAtOnce g h joined commands.Join v.locks.disk n (rested commands.Join answers.Up n) answers.Up
   up_is n here rests = record {
     between = rests.rests.between;
@@ -87,9 +87,10 @@ module _ (v : WorldView) (c : Cache) (h : ℕ) (watch : List (Option Look)) (con
     cause = (refl, here);
     up = λ is now. refl;
     down = λ other out. absurd (other refl);
-    scribbles = λ place k seen is. cc;
+    scribbles = λ place k seen is now. let no = is in cc;
     recovers = λ of is now. let no = is in cc;
-    logs = λ is. cc;
+    logs = λ is now. let no = is in cc;
+    some_logs = consistent.geometry.logs.0;
     leaves = λ is fine. cc;
     locks = (memory_locks commands.Join answers.Up n rests).0;
     stays = (memory_locks commands.Join answers.Up n rests).1;
@@ -97,7 +98,7 @@ module _ (v : WorldView) (c : Cache) (h : ℕ) (watch : List (Option Look)) (con
   }
 
   -- the `ok` of a `die`
-  die_is : (calls : ℕ) (n : Notes) → joined ≡ true → RestsWith h v watch n
+  die_is : (calls : ℕ) (n : Notes) → joined ≡ true → RestsWith h v carried n
       → IsAtOnce g h joined (commands.Die calls) v.locks.disk n (rested (commands.Die calls) answers.Fine n) answers.Fine
   die_is calls n here rests = record {
     between = rests.rests.between;
@@ -108,9 +109,10 @@ module _ (v : WorldView) (c : Cache) (h : ℕ) (watch : List (Option Look)) (con
     cause = refl;
     up = λ is now. let no = is in absurd cc;
     down = λ other out. let both : true ≡ false = sym here ∙ out in absurd cc;
-    scribbles = λ place k seen is. cc;
+    scribbles = λ place k seen is now. let no = is in cc;
     recovers = λ of is now. let no = is in cc;
-    logs = λ is. cc;
+    logs = λ is now. let no = is in cc;
+    some_logs = consistent.geometry.logs.0;
     leaves = λ is fine. let no = is in cc;
     locks = (memory_locks (commands.Die calls) answers.Fine n rests).0;
     stays = (memory_locks (commands.Die calls) answers.Fine n rests).1;
@@ -126,18 +128,10 @@ module _ (v : WorldView) (c : Cache) (h : ℕ) (watch : List (Option Look)) (con
   down_drops : (command : Command) → drops answers.Down command ≡ false
   down_drops command = refl
 
-  out_locks : (command : Command) (n : Notes) → RestsWith h v watch n → AreFileLocks g n.memory.holds × (n.memory.left ≡ false)
-  out_locks command n rests = resting_locks v h n watch consistent rests
+  out_locks : (command : Command) (n : Notes) → RestsWith h v carried n → AreFileLocks g n.memory.holds × (n.memory.left ≡ false)
+  out_locks command n rests = resting_locks v h n carried consistent rests
 
-  is_no_scribble : (command : Command) (place k seen : ℕ) → IsKnown h command → command ≢ commands.Scribble place k seen
-  is_no_scribble (commands.Scribble place' k' seen') place k seen known is = known
-  is_no_scribble command place k seen known is = cc
-
-  is_no_log : (command : Command) → IsKnown h command → command ≢ commands.Log
-  is_no_log commands.Log known is = known
-  is_no_log command known is = cc
-
-  down_is : (command : Command) (n : Notes) → IsKnown h command → command ≢ commands.Join → joined ≡ false → RestsWith h v watch n
+  down_is : (command : Command) (n : Notes) → IsKnown h command → command ≢ commands.Join → joined ≡ false → RestsWith h v carried n
       → IsAtOnce g h joined command v.locks.disk n (at_rest n.memory n.dying n.pending n.watch) answers.Down
   down_is command n known other out rests = record {
     between = rests.rests.between;
@@ -148,9 +142,10 @@ module _ (v : WorldView) (c : Cache) (h : ℕ) (watch : List (Option Look)) (con
     cause = (refl, out);
     up = λ join now. absurd (other join);
     down = λ apart none. refl;
-    scribbles = λ place k seen. is_no_scribble command place k seen known;
+    scribbles = λ place k seen is now. let both : true ≡ false = sym now ∙ out in cc;
     recovers = λ of is now. let both : true ≡ false = sym now ∙ out in cc;
-    logs = is_no_log command known;
+    logs = λ is now. let both : true ≡ false = sym now ∙ out in cc;
+    some_logs = consistent.geometry.logs.0;
     leaves = λ is fine. cc;
     locks = (out_locks command n rests).0;
     stays = (out_locks command n rests).1;
@@ -159,15 +154,15 @@ module _ (v : WorldView) (c : Cache) (h : ℕ) (watch : List (Option Look)) (con
 
 -- the seat behind such an answer
 module _ (command : Command) (h : ℕ) (v : WorldView) (c : Cache) (consistent : Consistent v.locks) (known : IsKnown h command) (old : Seat)
-    (empty : old.plan ≡ None) (resting : IsResting v c h old.watch) where
+    (empty : old.plan ≡ None) (resting : IsResting v c h old.carried) where
   abbrev key_is : Bool
   key_is = is_some (host_at v.locks h).key
 
   joined_now : joined_of v h command old.plan ≡ key_is
   joined_now = ap (λ (p : Option Plan). joined_of v h command p) empty
 
-  rests_now : (n : Notes) → PlanNotedOf command v h old.watch old.plan n → RestsWith h v old.watch n
-  rests_now n noted = subst (λ (p : Option Plan). PlanNotedOf command v h old.watch p n) empty noted
+  rests_now : (n : Notes) → PlanNotedOf command v h old.carried old.plan n → RestsWith h v old.carried n
+  rests_now n noted = subst (λ (p : Option Plan). PlanNotedOf command v h old.carried p n) empty noted
 
   turn_as : (death : Option ℕ) (answer : Answer) (n later : Notes) → IsAtOnce v.locks.geometry h key_is command v.locks.disk n later answer
       → IsHostTurn v.locks.geometry h (joined_of v h command old.plan) death command v.locks.disk v.locks.disk None None (Some answer) n later
@@ -176,13 +171,13 @@ module _ (command : Command) (h : ℕ) (v : WorldView) (c : Cache) (consistent :
       (at_once_turn v.locks.geometry h key_is command v.locks.disk n later answer is death)
 
   -- nothing changes but the notes, which rest as before
-  same_rests : (n : Notes) → RestsWith h v old.watch n → (at_rest n.memory n.dying n.pending n.watch) ≡ n
+  same_rests : (n : Notes) → RestsWith h v old.carried n → (at_rest n.memory n.dying n.pending n.watch) ≡ n
   same_rests n rests = sym rests.rests.between
 
   -- an answer that leaves the seat as it is
   unmoved : (w : WorldView) (d : Cache) (new : Seat) (answer : Answer) → w ≡ v → d ≡ c → new ≡ old
       → ((death : Option ℕ) → death_after command answer death ≡ death)
-      → ((n : Notes) → RestsWith h v old.watch n
+      → ((n : Notes) → RestsWith h v old.carried n
       → IsAtOnce v.locks.geometry h key_is command v.locks.disk n (at_rest n.memory n.dying n.pending n.watch) answer)
       → MakesTurn command h v w d old new (record { placed = None; ended = Some answer })
   unmoved w d new answer world cache seat death_same is =
@@ -195,7 +190,7 @@ module _ (command : Command) (h : ℕ) (v : WorldView) (c : Cache) (consistent :
             let rests = rests_now n noted in (
               at_rest n.memory n.dying n.pending n.watch,
               turn_as death answer n (at_rest n.memory n.dying n.pending n.watch) (is n rests),
-              subst (λ (m : Notes). PlanNotedOf command v h old.watch old.plan m) (rests.rests.between) noted,
+              subst (λ (m : Notes). PlanNotedOf command v h old.carried old.plan m) (rests.rests.between) noted,
               subst (λ (o : Option ℕ). IsLeft o n.dying old.left) (sym (death_same death)) left,
             );
       })
@@ -216,10 +211,11 @@ module _ (command : Command) (h : ℕ) (v : WorldView) (c : Cache) (consistent :
               later,
               turn_as death answers.Fine n later
                   (subst (λ (k : Command). IsAtOnce v.locks.geometry h key_is k v.locks.disk n later answers.Fine) (sym is)
-                  (die_is v c h old.watch consistent (suc calls) n here rests)),
+                  (die_is v c h old.carried consistent (suc calls) n here rests)),
               rw empty (record {
                 rests = record { remembered = rests.rests.remembered; rests = rests.rests.rests; between = refl };
                 watch_is = rests.watch_is;
+                pending_is = rests.pending_is;
               }),
               subst (λ (k : Command). IsLeft (death_after k answers.Fine death) 0 (Some (suc calls))) (sym is)
                   (suc calls, refl, omega arith, omega arith),
@@ -231,11 +227,12 @@ module _ (command : Command) (h : ℕ) (v : WorldView) (c : Cache) (consistent :
       → MakesTurn command h v w d old new (record { placed = None; ended = Some answers.Fine })
   dies_now w d new is here dropped =
       let plan_is : new.plan ≡ None = ap (λ (s : Seat). s.plan) dropped.is in
-      let watch_is : new.watch ≡ nothing = ap (λ (s : Seat). s.watch) dropped.is in
+      let carried_is : new.carried ≡ fresh v.locks.geometry = ap (λ (s : Seat). s.carried) dropped.is in
       record {
         made = None;
-        stands = rw (plan_is, watch_is) (record {
+        stands = rw (plan_is, carried_is) (record {
           watched = nothing_watched w h;
+          volume = sym dropped.world.notes.geometry;
           cached = nothing_cached w c d h (resting.cached.volume ∙ sym dropped.world.notes.geometry) dropped.cache;
         });
         plan = ap is_some plan_is;
@@ -248,9 +245,11 @@ module _ (command : Command) (h : ℕ) (v : WorldView) (c : Cache) (consistent :
                   (Some answers.Fine) n later) (sym dropped.world.notes.disk)
                   (turn_as death answers.Fine n later
                   (subst (λ (k : Command). IsAtOnce v.locks.geometry h key_is k v.locks.disk n later answers.Fine) (sym is)
-                  (die_is v c h old.watch consistent zero n here rests))),
-              rw (plan_is, watch_is) (dropped_rests w h
-                  (turn_moment v.locks.geometry h key_is command v.locks.disk v.locks.disk None None n) dropped.world.notes.mine),
+                  (die_is v c h old.carried consistent zero n here rests))),
+              rw (plan_is, carried_is) (
+                  let there = dropped_rests w h (turn_moment v.locks.geometry h key_is command v.locks.disk v.locks.disk None None n)
+                  dropped.world.notes.mine in record { rests = there.rests; watch_is = there.watch_is; pending_is = refl }
+                  ),
               subst (λ (k : Command). IsLeft (death_after k answers.Fine death) n.dying new.left) (sym is)
                   (ap (λ (s : Seat). s.left) dropped.is),
             );
@@ -258,7 +257,7 @@ module _ (command : Command) (h : ℕ) (v : WorldView) (c : Cache) (consistent :
 
 -- each answer that comes without a plan
 module _ (h : ℕ) (v : WorldView) (c : Cache) (consistent : Consistent v.locks) (old : Seat) (empty : old.plan ≡ None)
-    (resting : IsResting v c h old.watch) (w : WorldView) (d : Cache) (new : Seat) where
+    (resting : IsResting v c h old.carried) (w : WorldView) (d : Cache) (new : Seat) where
   abbrev Made : Command → Answer → Type 0
   Made command answer = MakesTurn command h v w d old new (record { placed = None; ended = Some answer })
 
@@ -272,7 +271,7 @@ module _ (h : ℕ) (v : WorldView) (c : Cache) (consistent : Consistent v.locks)
       → is_some (host_at v.locks h).key ≡ false → (w ≡ v) × (d ≡ c) × (new ≡ old) → Made command answers.Down
   down command known other out same =
       unmoved command h v c consistent known old empty resting w d new answers.Down same.0 same.1 same.2 (λ death. refl)
-      (λ n rests. down_is v c h old.watch consistent command n known other out rests)
+      (λ n rests. down_is v c h old.carried consistent command n known other out rests)
 
   pub answered : (command : Command) (answer : Answer) (b : Bool) → IsKnown h command
       → is_some (host_at v.locks h).key ≡ b → at_once command b ≡ Some answer → IsAnsweredAtOnce h command answer v w c d old new
@@ -280,7 +279,7 @@ module _ (h : ℕ) (v : WorldView) (c : Cache) (consistent : Consistent v.locks)
   answered commands.Join answer true known is given =
       given_as commands.Join answer answers.Up given (λ same.
       unmoved commands.Join h v c consistent known old empty resting w d new answers.Up same.0 same.1 same.2 (λ death. refl)
-      (λ n rests. up_is v c h old.watch consistent n is rests))
+      (λ n rests. up_is v c h old.carried consistent n is rests))
   answered commands.Join answer false known is given = absurd cc
   answered (commands.Die zero) answer true known is given =
       given_as (commands.Die zero) answer answers.Fine given

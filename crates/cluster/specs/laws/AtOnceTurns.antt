@@ -1,5 +1,5 @@
 -- A command that is answered without a plan: the turn makes no call.
-use Rattle.std.proofs.Common.{◌≡◌, ◌≢◌, ℕ, Bool, true, false, List, [], Option, Some, None, Contains, refl, ap, sym, subst, ◌∙◌, arith}
+use Rattle.std.proofs.Common.{◌≡◌, ◌≤◌, ◌≢◌, ℕ, Bool, true, false, List, [], Option, Some, None, Contains, refl, ap, sym, subst, ◌∙◌, arith}
 use Rattle.vol_base.specs.declared.answer.Answer.{Answer}
 use Rattle.vol_base.specs.declared.answer.Answer.TheVariants as answers
 use Rattle.vol_base.specs.declared.command.Command.{Command}
@@ -46,9 +46,10 @@ pub record IsAtOnce (g : Geometry) (h : ℕ) (joined : Bool) (command : Command)
   pub cause : IsCause (turn_moment g h joined command disk disk None None n) answer
   pub up : command ≡ commands.Join → joined ≡ true → answer ≡ answers.Up
   pub down : command ≢ commands.Join → joined ≡ false → answer ≡ answers.Down
-  pub scribbles : (place k seen : ℕ) → command ≢ commands.Scribble place k seen
+  pub scribbles : (place k seen : ℕ) → command ≡ commands.Scribble place k seen → joined ≢ true
   pub recovers : (of : ℕ) → command ≡ commands.Recover of → joined ≢ true
-  pub logs : command ≢ commands.Log
+  pub logs : command ≡ commands.Log → joined ≢ true
+  pub some_logs : 1 ≤ g.logs
   pub leaves : command ≡ commands.Leave → answer ≢ answers.Fine
   pub locks : AreFileLocks g (memory_after answer command n.memory).holds
   pub stays : (memory_after answer command n.memory).left ≡ false
@@ -71,7 +72,7 @@ module _ (g : Geometry) (h : ℕ) (joined : Bool) (command : Command) (disk : Di
       no_keys = λ refused. absurd refused;
       up = λ join here. ap (λ (a : Answer). Some a) (is.up join here);
       down = λ other out. ap (λ (a : Answer). Some a) (is.down other out);
-      refused = λ place k seen same here hint. absurd (is.scribbles place k seen same);
+      refused = λ place k seen same here hint. absurd (is.scribbles place k seen same here);
     };
     at_end = record {
       busy = λ key shown.
@@ -88,8 +89,10 @@ module _ (g : Geometry) (h : ℕ) (joined : Bool) (command : Command) (disk : Di
       free = λ of same free. absurd (no_slot (kinds.Slot of) _ free.found);
     };
     by_log = record {
-      nothing = λ log here none. absurd (is.logs log);
-      full = λ log full. absurd (is.logs log);
+      nothing = λ log here none. absurd (is.logs log here);
+      full = λ log full.
+          let (block, shown, some) = full 0 is.some_logs in
+          absurd (none_called n.calls shown.0 (ap (λ (m : Notes). m.calls) is.between) shown.1);
     };
     facts = record {
       rests = is.locks;

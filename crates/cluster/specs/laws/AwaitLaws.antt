@@ -1,10 +1,9 @@
 -- The block whose digest a host waits for, in the words of the run.
-use Rattle.std.proofs.Common.{◌≡◌, ◌≢◌, ◌&&◌, ℕ, Bool, true, false, List, [], ◌∷◌, Option, Some, None, is_none, is_some, if◌then◌else◌, refl, ap, sym, subst, ◌∙◌}
+use Rattle.std.proofs.Common.{◌≡◌, ℕ, Bool, true, false, List, [], ◌∷◌, Option, Some, None, is_some, refl, ap, sym, subst, ◌∙◌}
 use Rattle.vol_base.specs.declared.block.Block.{Block}
 use Rattle.vol_base.specs.declared.block.Digest.{Digest}
 use Rattle.vol_base.specs.declared.command.Command.{Command}
 use Rattle.vol_base.specs.declared.command.Command.TheVariants as commands
-use Rattle.vol_base.specs.NumberBlock.{number_block}
 use Rattle.vol_layout.specs.declared.geometry.Geometry.{Geometry}
 use Rattle.workload.specs.declared.line.Line.{Line}
 use Rattle.histories.specs.Joined.{is_joined}
@@ -19,12 +18,15 @@ use Rattle.recover_plan.specs.declared.plan.Doing.{Doing}
 use Rattle.recover_plan.specs.declared.plan.Doing.TheVariants as doings
 use Rattle.watch.specs.declared.watch.Look.{Look}
 use Rattle.cluster.specs.Agreements.{Agree, IsSound, IsStanding, IsSteady}
+use Rattle.cluster.specs.Asking.{asked_with, doing_asks, plan_asks}
 use Rattle.cluster.specs.Parts.{asked_by}
+use Rattle.cluster.specs.laws.HintSteps.{hints_joined, hints_wait}
+use Rattle.host_notes.specs.Owes.{joined_in}
 use Rattle.cluster.specs.Plans.{IsOf}
-use Rattle.cluster.specs.Seats.{IsKnown, PlanNotedOf, PlanStandsOf, joined_of}
+use Rattle.cluster.specs.Seats.{PlanNotedOf, PlanStandsOf, joined_of}
 use Rattle.cluster.specs.Views.{PartsView, seat_at, state_of}
 use Rattle.cluster.specs.declared.plan.Plan.{Plan}
-use Rattle.cluster.specs.declared.plan.Plan.TheVariants.{Collects, Files, Slots}
+use Rattle.cluster.specs.declared.plan.Plan.TheVariants.{Collects, Files, Hints, Slots}
 use Rattle.cluster.specs.laws.ActLaws.{joined_now}
 use Rattle.cluster.specs.laws.PartsLaws.{line_below}
 use Rattle.cluster.specs.laws.TurnedLaws.{command_there, line_there}
@@ -57,85 +59,62 @@ slots_wait g v h watch (doings.Again of stage) n same noted =
 slots_wait g v h watch (doings.Free of dead) n same noted = waits_none g (commands.Recover of) n.calls n.digests n.asks refl noted.asks
 slots_wait g v h watch doings.Ended n same noted = absurd noted
 
--- a command that the cluster knows and that is no `write` asks for none first
-pub known_first : (g : Geometry) (h : ℕ) (command : Command) → IsKnown h command → ((f i n : ℕ) → command ≢ commands.Write f i n)
-    → first_block g command ≡ None
-known_first g h (commands.Write f i n) known other = absurd (other f i n refl)
-known_first g h (commands.Scribble place n seen) known other = absurd known
-known_first g h command known other = refl
-
--- what is asked for with a plan, and between two commands, by whether the host has a key
-asked_by_key : Option Plan → Bool → Command → Option Block
-asked_by_key plan key (commands.Write f i n) = if is_none plan && key then Some (number_block n) else None
-asked_by_key plan key command = None
-
-plan_asks : (plan : Plan) (key : Bool) (command : Command) → asked_by_key (Some plan) key command ≡ None
-unfolding asked_by_key
-plan_asks plan key (commands.Write f i n) = refl
-plan_asks plan key command = refl
-
-out_asks : (command : Command) → asked_by_key None false command ≡ None
-unfolding asked_by_key
-out_asks (commands.Write f i n) = refl
-out_asks command = refl
-
-rest_asks : (g : Geometry) (h : ℕ) (command : Command) → IsKnown h command → first_block g command ≡ asked_by_key None true command
-unfolding asked_by_key
-rest_asks g h (commands.Write f i n) known = refl
-rest_asks g h (commands.Scribble place n seen) known = absurd known
-rest_asks g h command known = refl
-
-asked_same : (v : PartsView) (h : ℕ) (command : Command)
-    → asked_by v h command ≡ asked_by_key (seat_at v h).plan (is_some (host_at v.world.locks h).key) command
-unfolding asked_by_key
-asked_same v h (commands.Write f i n) = refl
-asked_same v h command = refl
+-- what is asked for with a plan of a host that is not joined
+plan_asks_none : (g : Geometry) (h : ℕ) (command : Command) (plan : Plan) → IsOf h command plan → joined_in command ≡ false
+    → plan_asks g plan ≡ None
+plan_asks_none g h command (Files plan) of out = refl
+plan_asks_none g h command (Slots plan) of out = refl
+plan_asks_none g h command (Collects plan) of out = refl
+plan_asks_none g h command (Hints plan) of out =
+    let both : true ≡ false = sym (hints_joined plan.doing) ∙ ap joined_in of.1 ∙ out in absurd cc
 
 module _ (v : PartsView) (h position : ℕ) (line : Line) (sound : IsSound v) (standing : IsStanding v) (steady : IsSteady v)
     (next : next_line v.workload.lines v.ledger.answers v.phase h ≡ Some position) (is : IsLine v.workload.lines position line)
-    (known : IsKnown h line.command) (notes : ℕ → Notes) (agree : Agree v notes) where
+    (notes : ℕ → Notes) (agree : Agree v notes) where
   abbrev g : Geometry
   g = v.workload.geometry
 
   abbrev key : Bool
   key = is_some (host_at v.world.locks h).key
 
-  noted : PlanNotedOf line.command v.world h (seat_at v h).watch (seat_at v h).plan (notes h)
+  noted : PlanNotedOf line.command v.world h (seat_at v h).carried (seat_at v h).plan (notes h)
   noted =
-      subst (λ (c : Command). PlanNotedOf c v.world h (seat_at v h).watch (seat_at v h).plan (notes h))
+      subst (λ (c : Command). PlanNotedOf c v.world h (seat_at v h).carried (seat_at v h).plan (notes h))
       (command_there v h line (line_there v h position line next is)) (agree.noted h (line_below v h sound position next))
 
   -- a plan runs the command of the line
   runs_line : (plan : Plan) → (seat_at v h).plan ≡ Some plan → IsOf h line.command plan
   runs_line plan some =
-      (subst (λ (p : Option Plan). PlanStandsOf line.command v.world v.cache h (seat_at v h).watch p) some
-      (subst (λ (c : Command). PlanStandsOf c v.world v.cache h (seat_at v h).watch (seat_at v h).plan)
+      (subst (λ (p : Option Plan). PlanStandsOf line.command v.world v.cache h (seat_at v h).carried p) some
+      (subst (λ (c : Command). PlanStandsOf c v.world v.cache h (seat_at v h).carried (seat_at v h).plan)
       (command_there v h line (line_there v h position line next is)) (standing.stands h (line_below v h sound position next)))).0
 
+  abbrev wants : Command → Option Block
+  wants command = wanted g command (notes h).calls (notes h).digests (notes h).asks
+
   waits : (plan : Option Plan) → (seat_at v h).plan ≡ plan → (b : Bool) → joined_of v.world h line.command plan ≡ b
-      → PlanNotedOf line.command v.world h (seat_at v h).watch plan (notes h)
-      → wanted_at g b (notes h) (Some line) ≡ asked_by_key plan key line.command
+      → PlanNotedOf line.command v.world h (seat_at v h).carried plan (notes h)
+      → wanted_at g b (notes h) (Some line) ≡ asked_with g plan key line.command
   waits None none true joined rests =
       ap (λ (m : Notes). wanted g line.command m.calls m.digests m.asks) rests.rests.between
-      ∙ rest_asks g h line.command known ∙ ap (λ (b : Bool). asked_by_key None b line.command) (sym joined)
-  waits None none false joined rests = sym (out_asks line.command) ∙ ap (λ (b : Bool). asked_by_key None b line.command) (sym joined)
-  waits (Some plan) some false joined agreed = sym (plan_asks plan key line.command)
+      ∙ ap (λ (b : Bool). asked_with g None b line.command) (sym joined)
+  waits None none false joined rests = ap (λ (b : Bool). asked_with g None b line.command) (sym joined)
+  waits (Some plan) some false joined agreed = sym (plan_asks_none g h line.command plan (runs_line plan some) joined)
   waits (Some (Files plan)) some true joined agreed =
       subst (λ (k : Geometry). wanted k line.command (notes h).calls (notes h).digests (notes h).asks ≡ None) sound.geometry agreed.2
-      ∙ sym (plan_asks (Files plan) key line.command)
   waits (Some (Slots plan)) some true joined agreed =
-      subst (λ (c : Command). wanted g c (notes h).calls (notes h).digests (notes h).asks ≡ None) (runs_line (Slots plan) some).1
-      (slots_wait g v.world h (seat_at v h).watch plan.doing (notes h) sound.geometry agreed)
-      ∙ sym (plan_asks (Slots plan) key line.command)
+      subst (λ (c : Command). wants c ≡ None) (runs_line (Slots plan) some).1
+      (slots_wait g v.world h (seat_at v h).carried.watch plan.doing (notes h) sound.geometry agreed.0)
   waits (Some (Collects plan)) some true joined agreed =
-      subst (λ (c : Command). wanted g c (notes h).calls (notes h).digests (notes h).asks ≡ None) (runs_line (Collects plan) some).1
+      subst (λ (c : Command). wants c ≡ None) (runs_line (Collects plan) some).1
       (subst (λ (k : Geometry). wanted k (commands.Collect plan.core.part) (notes h).calls (notes h).digests (notes h).asks ≡ None) sound.geometry
       agreed.0.noted.wants)
-      ∙ sym (plan_asks (Collects plan) key line.command)
+  waits (Some (Hints plan)) some true joined agreed =
+      subst (λ (c : Command). wants c ≡ doing_asks g plan.doing) (runs_line (Hints plan) some).1
+      (hints_wait g v.world h (seat_at v h).carried.pending.entries sound.geometry plan.doing (notes h) agreed.0)
 
   pub awaits_line : awaited v.workload (state_of v notes) h ≡ asked_by v h line.command
   unfolding awaited
   awaits_line =
       ap (wanted_at g (is_joined v.workload.lines v.ledger.answers h) (notes h)) (line_there v h position line next is)
       ∙ waits (seat_at v h).plan refl (is_joined v.workload.lines v.ledger.answers h) (joined_now v h position line sound standing steady next is) noted
-      ∙ sym (asked_same v h line.command)

@@ -29,7 +29,10 @@ use Rattle.lock_store.specs.declared.host.HostState.{HostState}
 use Rattle.plan_parts.specs.Steps.{IsAtRest, IsReady}
 use Rattle.plain_files.specs.Calls.{file_no}
 use Rattle.recover_plan.specs.Nexts as slots
-use Rattle.recover_plan.specs.PlanSteps.{RestsWith}
+use Rattle.hint_plans.specs.Nexts as hint_steps
+use Rattle.hint_plans.specs.Plans as hints
+use Rattle.hint_plans.specs.laws.FirstLaws as hint_laws
+use Rattle.hint_plans.specs.declared.plan.Doing as hint_doings
 use Rattle.recover_plan.specs.Plans.{Agrees, PlanStands, command_of}
 use Rattle.recover_plan.specs.declared.plan.Doing.{Doing}
 use Rattle.recover_plan.specs.laws.FirstLaws.{first_noted, first_stands}
@@ -38,12 +41,16 @@ use Rattle.share_plans.specs.Gatherings as collections
 use Rattle.share_plans.specs.declared.collection.Collection.{Collection}
 use Rattle.share_plans.specs.declared.collection.Gathering.{Gathering}
 use Rattle.share_plans.specs.laws.GatheringStays.{begun, collect_begins, collect_noted}
-use Rattle.watch.specs.declared.watch.Look.{Look}
+use Rattle.vol_base.specs.declared.plain.PlainReply.{PlainReply}
+use Rattle.vol_base.specs.declared.plain.PlainReply.TheVariants.{Done}
 use Rattle.workload.specs.Ranges.{is_in_range, is_narrow}
-use Rattle.cluster.specs.Plans.{IsBegun, IsOf, IsResting, PlanAt, PlanNoted}
+use Rattle.cluster.specs.Asking.{asked_with, doing_asks, plan_asks}
+use Rattle.cluster.specs.Carries.{HasDigest}
+use Rattle.cluster.specs.Plans.{IsBegun, IsOf, IsResting, PlanAt, PlanNoted, RestsWith}
+use Rattle.cluster.specs.declared.carried.Carried.{Carried}
 use Rattle.cluster.specs.Seats.{RestsAs, at_once}
 use Rattle.cluster.specs.declared.plan.Plan.{Plan}
-use Rattle.cluster.specs.declared.plan.Plan.TheVariants.{Collects, Files, Slots}
+use Rattle.cluster.specs.declared.plan.Plan.TheVariants.{Collects, Files, Hints, Slots}
 
 -- a command that is not answered at once is one of a joined host, or a `join` of one that is not
 pub joined_is : (command : Command) (joined : Bool) → at_once command joined ≡ None → joined ≡ joined_in command
@@ -72,6 +79,13 @@ pub dropped_of : (v : WorldView) (h : ℕ) → Consistent v.locks → RestsAs v 
 dropped_of v h c (inl ready) none = let both : true ≡ false = sym (has_key v h c ready) ∙ none in absurd cc
 dropped_of v h c (inr gone) none = gone
 
+-- a plan on hints runs the command that it was made for
+hint_command : (command : Command) → hint_steps.IsOfPlan command → hints.command_of (hint_steps.first_of command) ≡ command
+hint_command (commands.Scribble place k seen) of = refl
+hint_command commands.Log of = refl
+hint_command (commands.Scan f i) of = refl
+hint_command command of = absurd of
+
 -- the plan runs its command
 pub of_begun : (h : ℕ) (command : Command) (plan : Plan) → IsBegun h command plan → IsOf h command plan
 of_begun h command (Files plan) is = (is.0, is.1)
@@ -84,8 +98,18 @@ of_begun h command (Slots plan) is = (is.0, ap command_of is.1 ∙ command_first
     command_first h (commands.Look y) of = refl
     command_first h (commands.Recover y) of = refl
     command_first h command of = absurd of
+of_begun h command (Hints plan) is = (is.0, ap hints.command_of is.1 ∙ hint_command command is.2)
 of_begun h command (Collects plan) is =
     (ap (λ (x : Collection). x.host) is.core, ap (λ (x : Collection). commands.Collect x.part) is.core ∙ sym is.command_is)
+
+-- a command on hints is one of a joined host, and the file of a scan is one of the volume
+hint_joined : (command : Command) → hint_steps.IsOfPlan command → joined_in command ≡ true
+hint_joined commands.Join of = absurd of
+hint_joined command of = refl
+
+hint_range : (g : Geometry) (command : Command) → hint_steps.IsOfPlan command → IsTrue (is_in_range g command) → hint_steps.HasPlace g command
+hint_range g (commands.Scan f i) of range = ltb-true f g.files (and_parts (nat_lt f g.files) (is_narrow i) range).0
+hint_range g command of range = tt
 
 -- its file is one of the volume
 file_below : (g : Geometry) (command : Command) (call : FileCall) → IsTrue (is_in_range g command) → Runs command call → file_of call < g.files
@@ -116,9 +140,9 @@ no_join commands.Join (Plain call) runs = absurd cc
 no_join commands.Join (Close f) runs = absurd cc
 no_join command call runs = refl
 
-module _ (v : WorldView) (c : Cache) (h : ℕ) (watch : List (Option Look)) (consistent : Consistent v.locks) (below : h < v.locks.geometry.hosts)
+module _ (v : WorldView) (c : Cache) (h : ℕ) (carried : Carried) (consistent : Consistent v.locks) (below : h < v.locks.geometry.hosts)
     (command : Command) (range : IsTrue (is_in_range v.locks.geometry command)) (rests : RestsAs v h None)
-    (none : at_once command (is_some (host_at v.locks h).key) ≡ None) (resting : IsResting v c h watch) where
+    (none : at_once command (is_some (host_at v.locks h).key) ≡ None) (resting : IsResting v c h carried) where
   joined : is_some (host_at v.locks h).key ≡ joined_in command
   joined = joined_is command (is_some (host_at v.locks h).key) none
 
@@ -140,12 +164,19 @@ module _ (v : WorldView) (c : Cache) (h : ℕ) (watch : List (Option Look)) (con
   may_begin (commands.Recover y) of range is = (ready_of v h rests is, ltb-true y v.locks.geometry.hosts range)
   may_begin command of range is = absurd of
 
-  pub begun_at : (plan : Plan) → IsBegun h command plan → PlanAt v c h watch plan
-  begun_at (Files plan) is = (files_at plan is, resting.watched)
+  pub begun_at : (plan : Plan) → IsBegun h command plan → PlanAt v c h carried plan
+  begun_at (Files plan) is = (files_at plan is, record { watched = resting.watched; volume = resting.volume })
   begun_at (Slots plan) (host, doing, of) = (
-    subst (λ (d : Doing). PlanStands v h watch d) (sym doing)
-        (first_stands v h watch command below of (may_begin command of range joined) resting.watched),
+    subst (λ (d : Doing). PlanStands v h carried.watch d) (sym doing)
+        (first_stands v h carried.watch command below of (may_begin command of range joined) resting.watched),
     resting.cached,
+    resting.volume,
+  )
+  begun_at (Hints plan) (host, doing, of) = (
+    subst (λ (d : hint_doings.Doing). hints.PlanStands v h carried.pending d) (sym doing)
+        (hint_laws.first_stands v h carried.pending command consistent of (hint_range v.locks.geometry command of range)
+        (record { host = below; ready = ready_of v h rests (joined ∙ hint_joined command of); volume = resting.volume })),
+    resting,
   )
   begun_at (Collects plan) is =
       let ready = ready_of v h rests (joined ∙ ap joined_in is.command_is) in
@@ -156,31 +187,57 @@ module _ (v : WorldView) (c : Cache) (h : ℕ) (watch : List (Option Look)) (con
         resting,
       )
 
+-- a command that asks for no digest first is no `write`
+no_digest : (g : Geometry) (command : Command) (digest : Option Digest) (digests : List Digest) → first_block g command ≡ None
+    → HasDigest command digest digests
+no_digest g (commands.Write f i n) digest digests none = absurd cc
+no_digest g command digest digests none = tt
+
+none_some : (o : Option PlainReply) → o ≡ None → is_some o ≡ true → ⊥
+none_some None none some = cc
+none_some (Some reply) none some = cc
+
 -- the notes of a host between two commands agree with the beginning of a command that asks for no digest
-pub begun_noted : (v : WorldView) (h : ℕ) (watch : List (Option Look)) (command : Command) (plan : Plan) (n : Notes)
-    → first_block v.locks.geometry command ≡ None → IsBegun h command plan → RestsWith h v watch n → PlanNoted command v h watch plan n
-begun_noted v h watch command (Files plan) n none (host, runs, first) rests = (
+pub begun_noted : (v : WorldView) (h : ℕ) (carried : Carried) (command : Command) (plan : Plan) (n : Notes)
+    → first_block v.locks.geometry command ≡ None → IsBegun h command plan → RestsWith h v carried n → PlanNoted command v h carried plan n
+begun_noted v h carried command (Files plan) n none (host, runs, first) rests = (
   subst (λ (s : Stage). NotedAt command v plan.core s n) (sym first.stage)
       (begin_noted command v plan.core n runs (subst (λ (x : ℕ). IsAtRest v x n) (sym host) rests.rests)),
   rests.watch_is,
   ap (λ (m : Notes). wanted v.locks.geometry command m.calls m.digests m.asks) rests.rests.between ∙ none,
+  rests.pending_is,
+  record {
+    handed = no_digest v.locks.geometry command carried.digest n.digests none;
+    range = λ placed.
+        let unplaced : n.placed ≡ None = ap (λ (m : Notes). m.placed) rests.rests.between in
+        absurd (none_some (Some Done) (sym placed ∙ unplaced) refl);
+  },
 )
-begun_noted v h watch command (Slots plan) n none (host, doing, of) rests =
-    subst (λ (d : Doing). Agrees h v watch d n) (sym doing) (first_noted v h watch n rests command of)
-begun_noted v h watch command (Collects plan) n none is rests = (
+begun_noted v h carried command (Slots plan) n none (host, doing, of) rests = (
+  subst (λ (d : Doing). Agrees h v carried.watch d n) (sym doing)
+      (first_noted v h carried.watch n (record { rests = rests.rests; watch_is = rests.watch_is }) command of),
+  rests.pending_is,
+)
+begun_noted v h carried command (Hints plan) n none (host, doing, of) rests = (
+  subst (λ (d : hint_doings.Doing). hints.Agrees h v carried.pending.entries d n) (sym doing)
+      (hint_laws.first_noted v h carried.pending.entries n (record { rests = rests.rests; pending_is = rests.pending_is }) command of),
+  rests.watch_is,
+)
+begun_noted v h carried command (Collects plan) n none is rests = (
   subst (λ (x : Collection). collections.NotedAt v x plan.stage n) (sym is.core)
       (subst (λ (s : Gathering). collections.NotedAt v (begun h is.part) s n) (sym is.stage) (collect_noted v h is.part n rests.rests)),
   rests.watch_is,
+  rests.pending_is,
 )
 
 -- and where the digest of its block was handed in
-module _ (v : WorldView) (h : ℕ) (watch : List (Option Look)) (command : Command) (plan : FilePlan) (digest : Digest)
+module _ (v : WorldView) (h : ℕ) (carried : Carried) (command : Command) (plan : FilePlan) (digest : Digest)
     (asks : plan.stage ≡ stages.Asks) (is : IsBegun h command (Files plan)) where
   pub supplied_at : (c : Cache) → At v c plan.core plan.stage → At v c plan.core stages.Begins
   supplied_at c at = supply_stands v c plan.core (subst (λ (s : Stage). At v c plan.core s) asks at)
 
-  pub supplied_noted : (n : Notes) → RestsWith h v watch n
-      → NotedAt command v plan.core stages.Begins (with_digest digest n) × ((with_digest digest n).watch ≡ watch)
+  pub supplied_noted : (n : Notes) → RestsWith h v carried n
+      → NotedAt command v plan.core stages.Begins (with_digest digest n) × ((with_digest digest n).watch ≡ carried.watch)
       × (wanted v.locks.geometry command (with_digest digest n).calls (with_digest digest n).digests (with_digest digest n).asks ≡ None)
   supplied_noted n rests = (
     supply_noted command v plan.core digest n (subst (λ (s : Stage). NotedAt command v plan.core s n) (sym is.2.stage ∙ asks)
@@ -189,9 +246,23 @@ module _ (v : WorldView) (h : ℕ) (watch : List (Option Look)) (command : Comma
     ap (λ (m : Notes). wanted v.locks.geometry command m.calls (m.digests ++ digest ∷ []) None) rests.rests.between,
   )
 
--- a command that begins asks for no digest any more, where a joined host's does not
-pub asks_not : (g : Geometry) (command : Command) (joined : Bool) → at_once command joined ≡ None
-    → (joined ≡ true → first_block g command ≡ None) → first_block g command ≡ None
+-- a command that begins asks for no digest any more, where a joined host's does not, and its plan for none
+pub asks_not : (g : Geometry) (command : Command) (joined : Bool) → at_once command joined ≡ None → asked_with g None joined command ≡ None
+    → first_block g command ≡ None
 asks_not g commands.Join joined none asks = refl
-asks_not g command true none asks = asks refl
+asks_not g command true none asks = asks
 asks_not g command false none asks = absurd cc
+
+begun_doing : (g : Geometry) (command : Command) → hint_steps.IsOfPlan command → first_block g command ≡ None
+    → doing_asks g (hint_steps.first_of command) ≡ None
+begun_doing g (commands.Scribble place k seen) of none = none
+begun_doing g commands.Log of none = refl
+begun_doing g (commands.Scan f i) of none = refl
+begun_doing g command of none = absurd of
+
+pub begun_asks : (g : Geometry) (h : ℕ) (command : Command) (plan : Plan) → IsBegun h command plan → first_block g command ≡ None
+    → plan_asks g plan ≡ None
+begun_asks g h command (Files plan) begun none = refl
+begun_asks g h command (Slots plan) begun none = refl
+begun_asks g h command (Collects plan) begun none = refl
+begun_asks g h command (Hints plan) begun none = ap (doing_asks g) begun.1 ∙ begun_doing g command begun.2 none

@@ -27,9 +27,9 @@ module _ (command : Command) (h : ℕ) (v w : WorldView) (d : Cache) (old mid ne
       ap (λ (s : Seat). joined_of v h command s.plan) seat ∙ sym key_is ∙ sym (ap (λ (p : Option Plan). joined_of v h command p) empty)
 
   -- the notes agree with the plan at its beginning
-  pub noted_begun : (n : Notes) → PlanNotedOf command v h old.watch old.plan n → PlanNotedOf command v h mid.watch mid.plan n
+  pub noted_begun : (n : Notes) → PlanNotedOf command v h old.carried old.plan n → PlanNotedOf command v h mid.carried mid.plan n
   noted_begun n noted =
-      rw seat (begun_noted v h old.watch command plan n none begun (subst (λ (p : Option Plan). PlanNotedOf command v h old.watch p n) empty noted))
+      rw seat (begun_noted v h old.carried command plan n none begun (subst (λ (p : Option Plan). PlanNotedOf command v h old.carried p n) empty noted))
 
   pub begun_turn : MakesTurn command h v w d mid new done → MakesTurn command h v w d old new done
   begun_turn made = record {

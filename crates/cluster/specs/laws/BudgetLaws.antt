@@ -1,6 +1,6 @@
 -- The number of turns left of a phase: it begins as 2 ^ 28 for each line, falls by one where a command begins or goes on, and by the rest of
 -- the line's turns where it is answered; and it is 0 exactly where no host is at a line.
-use Rattle.std.proofs.Common.{◌≡◌, ◌≢◌, ◌+◌, ◌-◌, ◌*◌, ◌<◌, ◌≤◌, ◌^◌, ◌↔◌, ◌∙◌, ℕ, zero, suc, Bool, true, false, List, [], ◌∷◌, Option, Some, None, IsSome, is_some, length, slice_set, slice_index_or, refl, ap, sym, subst, inl, inr, arith, get_or-set_other, get_or-set_same}
+use Rattle.std.proofs.Common.{◌≡◌, ◌≢◌, ◌+◌, ◌-◌, ◌*◌, ◌<◌, ◌≤◌, ◌^◌, ◌↔◌, ◌∙◌, ℕ, zero, suc, Bool, true, false, List, [], ◌∷◌, Option, Some, None, IsSome, is_some, length, slice_set, refl, ap, sym, subst, inl, inr, arith, get_or-set_other, get_or-set_same}
 use Rattle.std.specs.Prelude.{if◌then◌else◌}
 use Rattle.std.specs.List.{sum}
 use Rattle.std.proofs.lemmas.Bool.{cases_eq}
@@ -13,9 +13,8 @@ use Rattle.cluster.specs.Agreements.{IsStanding}
 use Rattle.cluster.specs.Budgets.{AreUsed, IsBudget, used_at}
 use Rattle.cluster.specs.LinesLeft.{hosts_in}
 use Rattle.cluster.specs.PlanTurns.{HasEnded, HasGoneOn, LeavesTurns, lines_left_of, seat_left, seat_left_of, turn_limit, turn_limit_of}
-use Rattle.cluster.specs.Views.{PartsView, resting, seat_at}
+use Rattle.cluster.specs.Views.{PartsView, seat_at}
 use Rattle.cluster.specs.declared.plan.Plan.{Plan}
-use Rattle.cluster.specs.declared.seat.Seat.{Seat}
 use Rattle.cluster.specs.laws.LinesLeftLaws.{busy_few, left_none, lines_most, none_left}
 
 -- the first host apart
@@ -127,7 +126,7 @@ pub budget_phase : (v u : PartsView) (used : List ℕ) (left : ℕ) → IsBudget
     → IsBudget u used (lines_left_of u * 2 ^ 28)
 budget_phase v u used left budget standing idle workload seats =
     budget_begins u used (budget.are.long ∙ sym (ap (λ (w : Workload). w.geometry.hosts) workload))
-    (λ h host. ap (λ (xs : List Seat). (slice_index_or xs h resting).plan) seats ∙ rests h (before h host))
+    (λ h host. rw (seats, workload) (rests h (before h host)))
     (λ h host. budget.are.free h (before h host) (rests h (before h host)))
   where
     before : (h : ℕ) → h < u.workload.geometry.hosts → h < v.workload.geometry.hosts

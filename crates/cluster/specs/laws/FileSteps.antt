@@ -1,5 +1,5 @@
 -- A step of a plan on a file is a step of a plan.
-use Rattle.std.proofs.Common.{◌≡◌, ◌≢◌, ◌⊎◌, inl, inr, ◌∷◌, ℕ, Bool, false, List, [], Option, Some, None, if◌then◌else◌, refl, ap, sym, subst, ◌∙◌}
+use Rattle.std.proofs.Common.{◌≡◌, ◌≢◌, ◌<◌, ◌⊎◌, inl, inr, ◌∷◌, ℕ, Bool, false, List, [], Option, Some, None, if◌then◌else◌, refl, ap, sym, subst, ◌∙◌}
 use Rattle.vol_base.specs.declared.answer.Answer.{Answer}
 use Rattle.vol_base.specs.declared.answer.Answer.TheVariants as answers
 use Rattle.vol_base.specs.declared.answer.CutBy.{CutBy}
@@ -13,7 +13,8 @@ use Rattle.vol_base.specs.declared.command.Command.TheVariants as commands
 use Rattle.vol_layout.specs.declared.geometry.Geometry.{Geometry}
 use Rattle.shared_disk.specs.Events.{Event}
 use Rattle.file_plans.specs.Bases.{IsCached}
-use Rattle.file_plans.specs.Calls.{Runs}
+use Rattle.file_plans.specs.Calls.{Runs, file_of}
+use Rattle.vol_base.specs.declared.plain.PlainReply.TheVariants.{Done}
 use Rattle.file_plans.specs.Plans as files
 use Rattle.file_plans.specs.Stands.{At, NotedAt}
 use Rattle.file_plans.specs.declared.call.FileCall.{FileCall}
@@ -45,7 +46,10 @@ use Rattle.recover_plan.specs.PlanSteps.{AreWatched}
 use Rattle.recover_plan.specs.SlotTurns.{IsOnSlot}
 use Rattle.recover_plan.specs.laws.LooksStayLaws.{looks_stay}
 use Rattle.watch.specs.declared.watch.Look.{Look}
-use Rattle.cluster.specs.Plans.{HasStepped, NotedBehind, PlanAt, PlanNoted, StandsBehind, looks_behind}
+use Rattle.cluster.specs.Carries.{IsCarried, IsPlaceOf, IsWriteNoted, MayNote, carried_behind, hints_behind, looks_behind}
+use Rattle.cluster.specs.Plans.{HasStepped, NotedBehind, PlanAt, PlanNoted, StandsBehind}
+use Rattle.cluster.specs.declared.carried.Carried.{Carried}
+use Rattle.cluster.specs.laws.PendingLaws.{IsUnhinted, hints_volume, pending_step, place_of_call, write_ends, write_on}
 use Rattle.cluster.specs.declared.plan.Plan.TheVariants.{Files}
 
 -- where a digest is asked for
@@ -89,21 +93,46 @@ never_asks commands.Merge (Plain call) runs asks = cc
 never_asks commands.Merge (Close of) runs asks = cc
 never_asks command call runs asks = asks
 
-module _ (command : Command) (v w : WorldView) (d : Cache) (h : ℕ) (watch : List (Option Look)) (old new : FilePlan) (step : Step)
-    (host : old.core.host ≡ h) (runs : Runs command old.core.call) (others : Others h v w) (watched : AreWatched v h watch)
-    (was : (n : Notes) → PlanNoted command v h watch (Files old) n → IsRemembered v.locks.geometry n.memory (host_at v.locks h))
-    (none : (n : Notes) × PlanNoted command v h watch (Files old) n) where
+runs_unhinted : (command : Command) (call : FileCall) → Runs command call → IsUnhinted command
+runs_unhinted commands.Log (Plain call) runs = absurd cc
+runs_unhinted commands.Log (Close of) runs = absurd cc
+runs_unhinted (commands.Scan f i) (Plain call) runs = absurd cc
+runs_unhinted (commands.Scan f i) (Close of) runs = absurd cc
+runs_unhinted command call runs = tt
+
+module _ (command : Command) (v w : WorldView) (d : Cache) (h : ℕ) (carried : Carried) (old new : FilePlan) (step : Step)
+    (host : old.core.host ≡ h) (runs : Runs command old.core.call) (others : Others h v w) (was_carried : IsCarried v h carried)
+    (file : file_of old.core.call < v.locks.geometry.files)
+    (was : (n : Notes) → PlanNoted command v h carried (Files old) n → IsRemembered v.locks.geometry n.memory (host_at v.locks h))
+    (none : (n : Notes) × PlanNoted command v h carried (Files old) n) where
   abbrev behind : Option Answer → List (Option Look)
-  behind ended = watch_behind command ended watch
+  behind ended = watch_behind command ended carried.watch
+
+  abbrev after : Next → Carried
+  after next =
+      record carried { watch = behind (ended_of next); pending = hints_behind command next carried.digest carried.pending }
+
+  carried_now : (next : Next) → AreWatched w h (behind (ended_of next)) → IsCarried w h (after next)
+  carried_now next looks = record {
+    watched = looks;
+    volume = hints_volume command next carried.digest carried.pending ∙ was_carried.volume ∙ sym others.locks.lasts.geometry;
+  }
+
+  pending_now : (next : Next) (made : Option Event) (n later : Notes) → PlanNoted command v h carried (Files old) n
+      → Owes v.locks.geometry h command v.locks.disk w.locks.disk made step.placed (ended_of next) n later
+      → later.pending ≡ (after next).pending.entries
+  pending_now next made n later noted owes =
+      pending_step v.locks.geometry h command v.locks.disk w.locks.disk made step.placed n later carried.digest next carried.pending
+      (runs_unhinted command old.core.call runs) owes noted.3 noted.4.handed
 
   -- the looks in the notes, and what is remembered
-  looks : (made : Option Event) (ended : Option Answer) (n later : Notes) → PlanNoted command v h watch (Files old) n
+  looks : (made : Option Event) (ended : Option Answer) (n later : Notes) → PlanNoted command v h carried (Files old) n
       → Owes v.locks.geometry h command v.locks.disk w.locks.disk made step.placed ended n later
       → IsRemembered w.locks.geometry later.memory (host_at w.locks h) → LooksStay command h v w ended n later
   looks made ended n later noted owes is =
       looks_stay command h v w made step.placed ended n later (file_or_slot command (on_file command old.core.call runs)) others owes (was n noted) is
 
-  looked : (ended : Option Answer) (n later : Notes) → PlanNoted command v h watch (Files old) n → LooksStay command h v w ended n later
+  looked : (ended : Option Answer) (n later : Notes) → PlanNoted command v h carried (Files old) n → LooksStay command h v w ended n later
       → later.watch ≡ behind ended
   looked ended n later noted stay = stay.noted ∙ ap (λ (xs : List (Option Look)). watch_behind command ended xs) noted.1
 
@@ -144,13 +173,23 @@ module _ (command : Command) (v w : WorldView) (d : Cache) (h : ℕ) (watch : Li
     open_owes n later owes =
         subst (λ (next : Next). Owes v.locks.geometry h command v.locks.disk w.locks.disk owed.made step.placed (ended_of next) n later) more owes
 
-    stay : (n : Notes) (noted : PlanNoted command v h watch (Files old) n)
+    stay : (n : Notes) (noted : PlanNoted command v h carried (Files old) n)
         → LooksStay command h v w None n (owed.owes n noted.0).0
     stay n noted =
-        let (later, owes, after) = owed.owes n noted.0 in
-        looks owed.made None n later noted (open_owes n later owes) (remembered later after)
+        let (later, owes, is) = owed.owes n noted.0 in
+        looks owed.made None n later noted (open_owes n later owes) (remembered later is)
 
-    went_on : HasStepped command h v w d watch (behind None) (Files old) (Files new) step
+    placed_in : step.placed ≡ Some Done → IsPlaceOf v.locks.geometry command
+    placed_in = place_of_call v.locks.geometry command old.core.call step.placed runs file did.in_range
+
+    write_now : (n later : Notes) → PlanNoted command v h carried (Files old) n
+        → Owes v.locks.geometry h command v.locks.disk w.locks.disk owed.made step.placed None n later
+        → IsWriteNoted w.locks.geometry command carried.digest later
+    write_now n later noted owes =
+        subst (λ (g : Geometry). IsWriteNoted g command carried.digest later) (sym others.locks.lasts.geometry)
+        (write_on v.locks.geometry h command v.locks.disk w.locks.disk owed.made step.placed n later carried.digest noted.4 placed_in owes)
+
+    went_on : HasStepped command h v w d carried (after nexts.More) (Files old) (Files new) step
     went_on = record {
       owes = record {
         made = owed.made;
@@ -158,15 +197,22 @@ module _ (command : Command) (v w : WorldView) (d : Cache) (h : ℕ) (watch : Li
         others = owed.others;
         quiet = λ n noted. noted.2;
         owes = λ n noted.
-            let (later, owes, after) = owed.owes n noted.0 in (
+            let (later, owes, is) = owed.owes n noted.0 in (
               later,
               owes,
-              subst (λ (next : Next). NotedBehind command w h (behind None) (Files new) next later) (sym more)
-                  (noted_at later after, looked None n later noted (stay n noted), waits owed.made n later (open_owes n later owes)),
+              subst (λ (next : Next). NotedBehind command w h (after nexts.More) (Files new) next later) (sym more) (
+                noted_at later is,
+                looked None n later noted (stay n noted),
+                waits owed.made n later (open_owes n later owes),
+                pending_now nexts.More owed.made n later noted (open_owes n later owes),
+                write_now n later noted (open_owes n later owes),
+              ),
             );
       };
-      stands = subst (λ (next : Next). StandsBehind command w d h (behind None) (Files new) next) (sym more)
-          ((here, subst (λ (call : FileCall). Runs command call) (sym did.call) runs), (stands, (stay none.0 none.1).watched watch watched));
+      stands = subst (λ (next : Next). StandsBehind command w d h (after nexts.More) (Files new) next) (sym more) (
+        (here, subst (λ (call : FileCall). Runs command call) (sym did.call) runs),
+        (stands, carried_now nexts.More ((stay none.0 none.1).watched carried.watch was_carried.watched)),
+      );
     }
 
   -- the command is answered
@@ -183,7 +229,7 @@ module _ (command : Command) (v w : WorldView) (d : Cache) (h : ℕ) (watch : Li
     rested later rest =
         subst (λ (g : Geometry). IsRemembered g later.memory (host_at w.locks h)) refl rest.remembered
 
-    ended : HasStepped command h v w d watch (behind (Some answer)) (Files old) (Files new) step
+    ended : HasStepped command h v w d carried (after (nexts.Answered answer)) (Files old) (Files new) step
     ended = record {
       owes = record {
         made = owed_end.made;
@@ -191,21 +237,25 @@ module _ (command : Command) (v w : WorldView) (d : Cache) (h : ℕ) (watch : Li
         others = owed_end.others;
         quiet = λ n noted. noted.2;
         owes = λ n noted.
-            let (later, owes, after) = owed_end.owes n noted.0 in (
+            let (later, owes, rest) = owed_end.owes n noted.0 in (
               later,
               owes,
-              subst (λ (next : Next). NotedBehind command w h (behind (Some answer)) (Files new) next later) (sym is)
+              subst (λ (next : Next). NotedBehind command w h (after (nexts.Answered answer)) (Files new) next later) (sym is)
                   (record {
-                    rests = after;
-                    watch_is = looked (Some answer) n later noted (looks owed_end.made (Some answer) n later noted (answer_owes n later owes) (rested later after));
+                    rests = rest;
+                    watch_is = looked (Some answer) n later noted (looks owed_end.made (Some answer) n later noted (answer_owes n later owes) (rested later rest));
+                    pending_is = pending_now (nexts.Answered answer) owed_end.made n later noted (answer_owes n later owes);
                   }),
             );
       };
-      stands = subst (λ (next : Next). StandsBehind command w d h (behind (Some answer)) (Files new) next) (sym is)
+      stands = subst (λ (next : Next). StandsBehind command w d h (after (nexts.Answered answer)) (Files new) next) (sym is)
           (record {
             watched =
-                let (later, owes, after) = owed_end.owes none.0 none.1.0 in
-                (looks owed_end.made (Some answer) none.0 later none.1 (answer_owes none.0 later owes) (rested later after)).watched watch watched;
+                let (later, owes, rest) = owed_end.owes none.0 none.1.0 in
+                (looks owed_end.made (Some answer) none.0 later none.1 (answer_owes none.0 later owes) (rested later rest)).watched carried.watch
+                was_carried.watched;
+            volume = hints_volume command (nexts.Answered answer) carried.digest carried.pending ∙ was_carried.volume
+                ∙ sym others.locks.lasts.geometry;
             cached = subst (λ (x : ℕ). IsCached w d x) host end.cached;
           });
     }
@@ -217,7 +267,7 @@ module _ (command : Command) (v w : WorldView) (d : Cache) (h : ℕ) (watch : Li
       let both : Some block ≡ None = sym asks ∙ none.1.2 in absurd cc
 
   pub file_stepped : (next : Next) → step.next ≡ next → files.HasStepped v w d old.core new.core old.stage step new.stage next
-      → HasStepped command h v w d watch (behind (ended_of next)) (Files old) (Files new) step
+      → HasStepped command h v w d carried (after next) (Files old) (Files new) step
   file_stepped nexts.More is did = went_on did is
   file_stepped (nexts.Work block) is did = absurd (waiting block did)
   file_stepped (nexts.Answered answer) is did = ended answer is did
@@ -247,14 +297,37 @@ looks_same command call (nexts.Answered (answers.Cut by)) watch runs = refl
 looks_same command call (nexts.Answered answer) watch runs =
     ap (λ (b : Bool). if b then nothing else watch) (drops_file command call answer runs (λ by is. cc))
 
--- a step of the plan, with the looks behind it
-pub file_step : (command : Command) (v w : WorldView) (c d : Cache) (watch after : List (Option Look)) (old new : FilePlan) (step : Step)
-    → Runs command old.core.call → Others old.core.host v w → PlanAt v c old.core.host watch (Files old)
-    → (n : Notes) × PlanNoted command v old.core.host watch (Files old) n → after ≡ looks_behind step.next watch
-    → files.HasStepped v w d old.core new.core old.stage step new.stage step.next
-    → HasStepped command old.core.host v w d watch after (Files old) (Files new) step
-file_step command v w c d watch after old new step runs others at noted after_is did =
-    subst (λ (xs : List (Option Look)). HasStepped command old.core.host v w d watch xs (Files old) (Files new) step)
-    (looks_same command old.core.call step.next watch runs ∙ sym after_is)
-    (file_stepped command v w d old.core.host watch old new step refl runs others at.1
-    (λ n is. remembered_at command v c old.core old.stage n at.0 is.0) noted step.next refl did)
+-- what is done of a `write` may become a hint
+module _ (command : Command) (v w : WorldView) (c d : Cache) (carried : Carried) (old new : FilePlan) (step : Step)
+    (runs : Runs command old.core.call) (at : PlanAt v c old.core.host carried (Files old))
+    (some : (n : Notes) × PlanNoted command v old.core.host carried (Files old) n) where
+  file_now : file_of old.core.call < v.locks.geometry.files
+  file_now = (stands_at v c old.core old.stage at.0).file
+
+  pub file_notes : files.HasStepped v w d old.core new.core old.stage step new.stage step.next → MayNote v.locks.geometry command step.next
+  file_notes did = cases step.next refl did
+    where
+      cases : (next : Next) → step.next ≡ next → files.HasStepped v w d old.core new.core old.stage step new.stage next
+          → MayNote v.locks.geometry command next
+      cases nexts.More is did = tt
+      cases (nexts.Work block) is did = tt
+      cases (nexts.Answered answer) is did =
+          let owed = did.owes command runs in
+          let (later, owes, rest) = owed.owes some.0 some.1.0 in
+          write_ends v.locks.geometry old.core.host command v.locks.disk w.locks.disk owed.made step.placed some.0 later carried.digest some.1.4
+          (place_of_call v.locks.geometry command old.core.call step.placed runs file_now did.in_range) (nexts.Answered answer)
+          (subst (λ (next : Next). Owes v.locks.geometry old.core.host command v.locks.disk w.locks.disk owed.made step.placed (ended_of next) some.0
+          later) is owes)
+
+  -- a step of the plan, with what is kept beside it
+  pub file_step : Others old.core.host v w → (after : Carried) → after ≡ carried_behind command step.next carried
+      → files.HasStepped v w d old.core new.core old.stage step new.stage step.next
+      → HasStepped command old.core.host v w d carried after (Files old) (Files new) step
+  file_step others after after_is did =
+      subst (λ (k : Carried). HasStepped command old.core.host v w d carried k (Files old) (Files new) step)
+      (ap (λ (xs : List (Option Look)). let k : Carried = record carried {
+        watch = xs;
+        pending = hints_behind command step.next carried.digest carried.pending;
+      } in k) (looks_same command old.core.call step.next carried.watch runs) ∙ sym after_is)
+      (file_stepped command v w d old.core.host carried old new step refl runs others at.1 file_now
+      (λ n is. remembered_at command v c old.core old.stage n at.0 is.0) some step.next refl did)

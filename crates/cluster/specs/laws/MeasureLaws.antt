@@ -2,23 +2,18 @@
 use Rattle.std.proofs.Common.{◌≡◌, ◌↔◌, ◌*◌, ◌<◌, ◌≤◌, ◌^◌, ◌∙◌, ℕ, Bool, true, false, Option, Some, None, IsSome, is_some, length, refl, ap, sym, subst, inl, inr, arith}
 use Rattle.std.proofs.lemmas.Bool.{cases_Bool, cases_lt}
 use Rattle.vol_base.specs.declared.plain.NoMemory.{NoMemory}
-use Rattle.std.specs.Prelude.{Err, IfNone, IfOk, IfSome, IsErr, Ok, Result, if◌then◌else◌, is_none, ◌&&◌}
+use Rattle.std.specs.Prelude.{Err, IfNone, IfOk, IfSome, IsErr, Ok, Result, if◌then◌else◌}
 use Rattle.vol_base.specs.Turned.{Lowers, Stays}
 use Rattle.vol_base.specs.declared.answer.Turn.{Turn}
 use Rattle.vol_base.specs.declared.answer.Turn.TheVariants.{Answered, Idle, Moved, Work}
 use Rattle.vol_base.specs.declared.block.Block.{Block}
-use Rattle.vol_base.specs.NumberBlock.{number_block}
-use Rattle.vol_base.specs.declared.command.Command.{Command}
-use Rattle.vol_base.specs.declared.command.Command.TheVariants.{Write}
-use Rattle.workload.specs.declared.line.Line.{Line}
-use Rattle.lock_store.specs.Views.{host_at}
 use Rattle.host_runs.specs.NextLines.{line_at}
 use Rattle.cluster.specs.Agreements.{IsSound, IsStanding}
 use Rattle.cluster.specs.Budgets.{CanCount, CanEnd, CanGoOn, IsBudget, IsMeasured, counted, supplied_in, used_at, with_turn}
-use Rattle.cluster.specs.Parts.{asked_at, asked_by, asked_of}
+use Rattle.cluster.specs.Parts.{asked_at, asked_of}
 use Rattle.cluster.specs.PlanTurns.{HasEnded, HasGoneOn, IsSoonerFor, IsSuppliedTurns, lines_left_of}
 use Rattle.cluster.specs.Runs.{IsIdle, IsStill}
-use Rattle.cluster.specs.Views.{BudgetView, ClusterView, PartsView, seat_at}
+use Rattle.cluster.specs.Views.{BudgetView, ClusterView, PartsView}
 use Rattle.cluster.specs.Waits.{Tells, has_line, line_now, waited_for}
 use Rattle.cluster.specs.laws.BudgetLaws.{budget_ends, budget_goes, budget_none, budget_phase, used_limit}
 use Rattle.cluster.specs.laws.LinesLeftLaws.{left_none, none_left}
@@ -185,21 +180,9 @@ module _ (v : ClusterView) (h : ℕ) (u : PartsView) (waits : Bool) (sound : IsS
     lower : (with_turn v.budget h).left < v.budget.left
     lower = let some = can_supply.some in omega (arith, some)
 
-    busy : is_none (seat_at u h).plan ≡ false
-    busy = by (seat_at u h).plan on.busy
-      where
-        by : {A : Type 0} (o : Option A) → is_some o ≡ true → is_none o ≡ false
-        by None some = absurd cc
-        by (Some a) some = refl
-
     -- it waits for none now
-    none_now : (line : Option Line) → asked_at u h line ≡ None
-    none_now None = refl
-    none_now (Some line) = by line.command
-      where
-        by : (command : Command) → asked_by u h command ≡ None
-        by (Write f i n) = ap (λ (b : Bool). if b && is_some (host_at u.world.locks h).key then Some (number_block n) else None) busy
-        by command = refl
+    none_now : asked_of u h ≡ None
+    none_now = (supplied_on v.parts u h turns (asks ∙ is)).0
 
   still : waits ≡ false → u ≡ v.parts
   still none = supplied_still v.parts u h turns (none_of (asked_of v.parts h) (asks ∙ none))
@@ -229,7 +212,7 @@ module _ (v : ClusterView) (h : ℕ) (u : PartsView) (waits : Bool) (sound : IsS
 
   pub none_supply : waited_for behind h ≡ None
   none_supply = ap (λ (b : Bool). if b then None else asked_of u h) live ∙ elim (cases_Bool waits) [
-    | inl is ↦ none_now is (line_at u.workload.lines (line_now u h))
+    | inl is ↦ none_now is
     | inr none ↦ ap (λ (p : PartsView). asked_of p h) (still none) ∙ none_of (asked_of v.parts h) (asks ∙ none)
   ]
 

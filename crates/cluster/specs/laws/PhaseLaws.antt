@@ -82,8 +82,8 @@ module _ (v : PartsView) (sound : IsSound v) (idle : IsIdle v) where
   standing_next standing = record {
     stands = λ h host.
         let none = resting standing h host in
-        subst (λ (p : Option Plan). PlanStandsOf (at_command next h) v.world v.cache h (seat_at v h).watch p) (sym none)
-        (subst (λ (p : Option Plan). PlanStandsOf (at_command v h) v.world v.cache h (seat_at v h).watch p) none (standing.stands h host));
+        subst (λ (p : Option Plan). PlanStandsOf (at_command next h) v.world v.cache h (seat_at v h).carried p) (sym none)
+        (subst (λ (p : Option Plan). PlanStandsOf (at_command v h) v.world v.cache h (seat_at v h).carried p) none (standing.stands h host));
     busy = λ h host busy. let both : true ≡ false = sym busy ∙ ap is_some (resting standing h host) in absurd cc;
     joined = λ h host busy. let both : true ≡ false = sym busy ∙ ap is_some (resting standing h host) in absurd cc;
   }
@@ -92,8 +92,8 @@ module _ (v : PartsView) (sound : IsSound v) (idle : IsIdle v) where
   agree_next standing notes agree = record {
     noted = λ h host.
         let none = resting standing h host in
-        subst (λ (p : Option Plan). PlanNotedOf (at_command next h) v.world h (seat_at v h).watch p (notes h)) (sym none)
-        (subst (λ (p : Option Plan). PlanNotedOf (at_command v h) v.world h (seat_at v h).watch p (notes h)) none (agree.noted h host));
+        subst (λ (p : Option Plan). PlanNotedOf (at_command next h) v.world h (seat_at v h).carried p (notes h)) (sym none)
+        (subst (λ (p : Option Plan). PlanNotedOf (at_command v h) v.world h (seat_at v h).carried p (notes h)) none (agree.noted h host));
     left = agree.left;
   }
 

@@ -1,5 +1,5 @@
 -- How many turns are left of a plan at its beginning, behind a step, and behind a turn of another host.
-use Rattle.std.proofs.Common.{Err, IfOk, Ok, Result, ◌≡◌, ◌≢◌, ◌<◌, ◌≤◌, ◌+◌, ◌-◌, ◌*◌, ◌^◌, ◌∙◌, ℕ, List, Option, Some, None, inl, inr, ap, sym, subst, arith}
+use Rattle.std.proofs.Common.{Err, IfOk, Ok, Result, ◌≡◌, ◌≢◌, ◌<◌, ◌≤◌, ◌+◌, ◌-◌, ◌*◌, ◌^◌, ◌∙◌, ℕ, Option, Some, None, inl, inr, ap, sym, subst, arith}
 use Rattle.vol_base.specs.declared.command.Command.{Command}
 use Rattle.vol_layout.specs.Ranges.{IsGeometry}
 use Rattle.disk_locks.specs.Consistent.{Consistent}
@@ -18,14 +18,19 @@ use Rattle.host_facts.specs.Views.{WorldView}
 use Rattle.recover_plan.specs.CallsLeft.{calls_left}
 use Rattle.recover_plan.specs.declared.plan.RecoverPlan.{RecoverPlan}
 use Rattle.recover_plan.specs.laws.CallsLeftLaws.{calls_most, calls_still}
-use Rattle.watch.specs.declared.watch.Look.{Look}
+use Rattle.hint_plans.specs.Nexts.{first_of}
+use Rattle.hint_plans.specs.Plans as hints
+use Rattle.hint_plans.specs.declared.plan.Doing.{Doing}
+use Rattle.hint_plans.specs.laws.StillLaws.{left_still}
+use Rattle.vol_base.specs.declared.command.Command.TheVariants as commands
 use Rattle.vol_base.specs.declared.plain.NoMemory.{NoMemory}
 use Rattle.cluster.specs.declared.seat.Done.{Done}
 use Rattle.cluster.specs.PlanTurns.{GoesSooner, IsSooner, turn_limit, plan_left, seat_left}
 use Rattle.cluster.specs.Plans.{IsBegun, PlanAt}
 use Rattle.cluster.specs.Seats.{PlanStandsOf}
 use Rattle.cluster.specs.declared.plan.Plan.{Plan}
-use Rattle.cluster.specs.declared.plan.Plan.TheVariants.{Collects, Files, Slots}
+use Rattle.cluster.specs.declared.carried.Carried.{Carried}
+use Rattle.cluster.specs.declared.plan.Plan.TheVariants.{Collects, Files, Hints, Slots}
 use Rattle.vol_base.specs.declared.answer.Answer.TheVariants.{Cut}
 use Rattle.vol_base.specs.declared.answer.Next.{Next}
 use Rattle.vol_base.specs.declared.answer.Next.TheVariants.{Answered, More}
@@ -61,17 +66,30 @@ few_collected : 4 * per_table + 195 < 2 ^ 28
 unfolding per_table
 few_collected = omega arith
 
+-- a command on hints has at most 400
+pub hint_few : (v : WorldView) → IsGeometry v.locks.geometry → (command : Command) (doing : Doing) → doing ≡ first_of command
+    → hints.left v.locks.geometry doing ≤ 400
+hint_few v volume command doing is =
+    subst (λ (d : Doing). hints.left v.locks.geometry d ≤ 400) (sym is) (by_command command)
+  where
+    by_command : (command : Command) → hints.left v.locks.geometry (first_of command) ≤ 400
+    by_command (commands.Scribble place k seen) = omega arith
+    by_command commands.Log = let most = volume.logs.1 in omega (arith, most)
+    by_command (commands.Scan f i) = let most = volume.hosts.1 in omega (arith, most)
+    by_command command = omega arith
+
 -- no command has 2 ^ 28 turns at its beginning
-pub begun_few : (v : WorldView) (c : Cache) (h : ℕ) (watch : List (Option Look)) (command : Command) (plan : Plan) → IsGeometry v.locks.geometry
-    → IsBegun h command plan → PlanAt v c h watch plan → plan_left v c plan < 2 ^ 28
-begun_few v c h watch command (Files plan) volume begun at =
+pub begun_few : (v : WorldView) (c : Cache) (h : ℕ) (carried : Carried) (command : Command) (plan : Plan) → IsGeometry v.locks.geometry
+    → IsBegun h command plan → PlanAt v c h carried plan → plan_left v c plan < 2 ^ 28
+begun_few v c h carried command (Files plan) volume begun at =
     subst (λ (s : Stage). turns_at v c plan.core s < 2 ^ 28) (sym begun.2.stage) (begin_few v c plan.core volume)
-begun_few v c h watch command (Slots plan) volume begun at =
-    let most = calls_most v h watch plan.doing at.0 in
+begun_few v c h carried command (Slots plan) volume begun at =
+    let most = calls_most v h carried.watch plan.doing at.0 in
     subst (λ (x : ℕ). calls_left v x plan.doing < 2 ^ 28) (sym begun.0)
     (omega (arith, most, volume.files.1, volume.parts.1, volume.groups.1))
-begun_few v c h watch command (Collects plan) volume begun at =
+begun_few v c h carried command (Collects plan) volume begun at =
     subst (λ (s : Gathering). left plan.core s < 2 ^ 28) (sym begun.stage) few_collected
+begun_few v c h carried command (Hints plan) volume begun at = let few = hint_few v volume command plan.doing begun.1 in omega (arith, few)
 
 -- and fewer where the digest of its block was handed in
 pub supplied_few : (v : WorldView) (c : Cache) (h : ℕ) (command : Command) (before after : FilePlan) → IsGeometry v.locks.geometry
@@ -86,19 +104,21 @@ supplied_few v c h command before after volume begun asks at core begins =
     less : (m n : ℕ) → m < n → n < 2 ^ 28 → m < 2 ^ 28 - 1
     less m n fewer few = omega (arith, fewer, few)
 
+same_most : (m n : ℕ) → m ≡ n → m ≤ n
+same_most m n same = omega (arith, same)
+
 -- a turn of another host leaves no more of them
 pub seat_stays : (v w : WorldView) (c d : Cache) (h x : ℕ) → Consistent v.locks → Others x v w → LeavesOthers x c d → h ≢ x
-    → (watch : List (Option Look)) (command : Command) (plan : Option Plan) → PlanStandsOf command v c h watch plan
+    → (carried : Carried) (command : Command) (plan : Option Plan) → PlanStandsOf command v c h carried plan
     → seat_left w d plan ≤ seat_left v c plan
-seat_stays v w c d h x consistent others leaves apart watch command None stands = omega arith
-seat_stays v w c d h x consistent others leaves apart watch command (Some (Files plan)) (of, at) =
+seat_stays v w c d h x consistent others leaves apart carried command None stands = omega arith
+seat_stays v w c d h x consistent others leaves apart carried command (Some (Files plan)) (of, at) =
     turns_last v w c d plan.core x consistent others leaves (λ same. apart (sym of.0 ∙ same)) plan.stage at.0
-seat_stays v w c d h x consistent others leaves apart watch command (Some (Collects plan)) (of, at) = omega arith
-seat_stays v w c d h x consistent others leaves apart watch command (Some (Slots plan)) (of, at) =
+seat_stays v w c d h x consistent others leaves apart carried command (Some (Collects plan)) (of, at) = omega arith
+seat_stays v w c d h x consistent others leaves apart carried command (Some (Hints plan)) (of, at) =
+    same_most _ _ (left_still v w h x consistent others apart plan.doing)
+seat_stays v w c d h x consistent others leaves apart carried command (Some (Slots plan)) (of, at) =
     same_most _ _ (calls_still v w plan.host x plan.doing others (λ same. apart (sym of.0 ∙ same)))
-  where
-    same_most : (m n : ℕ) → m ≡ n → m ≤ n
-    same_most m n same = omega (arith, same)
 
 -- the turn of a host between two commands that begins a plan is one of that plan
 pub begun_sooner : (v w : WorldView) (c d : Cache) (old : Option Plan) (plan : Plan) (new : Option Plan) → old ≡ None → plan_left v c plan < 2 ^ 28

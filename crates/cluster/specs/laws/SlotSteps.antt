@@ -27,10 +27,14 @@ use Rattle.recover_plan.specs.Plans.{Agrees, PlanStands, command_of, step_of}
 use Rattle.recover_plan.specs.declared.plan.Come.{Come}
 use Rattle.recover_plan.specs.declared.plan.Come.TheVariants as comes
 use Rattle.recover_plan.specs.declared.plan.Doing.{Doing}
+use Rattle.recover_plan.specs.declared.plan.Doing.TheVariants as doings
 use Rattle.recover_plan.specs.declared.plan.RecoverPlan.{RecoverPlan}
 use Rattle.watch.specs.declared.watch.Look.{Look}
 use Rattle.cluster.specs.Plans.{ForgetsBehind, ForgetsFor, HasStepped, NotedBehind, StandsBehind}
+use Rattle.cluster.specs.Carries.{hints_behind}
+use Rattle.cluster.specs.declared.carried.Carried.{Carried}
 use Rattle.cluster.specs.declared.plan.Plan.TheVariants.{Slots}
+use Rattle.cluster.specs.laws.PendingLaws.{IsQuiet, hints_volume, pending_step, quiet_digest, quiet_hints}
 
 -- where nothing is kept for a host, what is kept for it is right
 pub nothing_cached : (w : WorldView) (c d : Cache) (h : ℕ) → c.volume ≡ w.locks.geometry → ForgetsHost c d h → IsCached w d h
@@ -100,41 +104,74 @@ pub leaves_behind : (next : Next) (c d : Cache) (h : ℕ) → ForgetsBehind next
 leaves_behind (nexts.Answered (Cut by)) c d h then = forgets_leaves c d h then
 leaves_behind next c d h then = same_leaves c d h then
 
-module _ (command : Command) (v w : WorldView) (e : Cache) (h : ℕ) (watch after : List (Option Look)) (old new : RecoverPlan) (step : Step)
-    (host : new.host ≡ h) (of : command_of old.doing ≡ command) (cached : IsCached w e h) where
+-- no command on slots writes, logs hints or scans
+pub slots_quiet : (doing : Doing) → IsQuiet (command_of doing)
+slots_quiet doings.Register = tt
+slots_quiet doings.Enter = tt
+slots_quiet doings.EnterAgain = tt
+slots_quiet (doings.Over stage) = tt
+slots_quiet (doings.Retake dead) = tt
+slots_quiet doings.Unlock = tt
+slots_quiet doings.Fence = tt
+slots_quiet doings.Beat = tt
+slots_quiet (doings.Look of) = tt
+slots_quiet (doings.Begin of) = tt
+slots_quiet (doings.First of stage) = tt
+slots_quiet (doings.Again of stage) = tt
+slots_quiet (doings.Free of dead) = tt
+slots_quiet doings.Ended = tt
+
+module _ (command : Command) (v w : WorldView) (e : Cache) (h : ℕ) (carried : Carried) (looks : List (Option Look)) (old new : RecoverPlan)
+    (step : Step) (host : new.host ≡ h) (of : command_of old.doing ≡ command) (others : Others h v w) (cached : IsCached w e h)
+    (volume : carried.pending.geometry ≡ v.locks.geometry) where
+  abbrev after : Next → Carried
+  after next = record carried { watch = looks; pending = hints_behind command next carried.digest carried.pending }
+
+  volume_now : (next : Next) → (after next).pending.geometry ≡ w.locks.geometry
+  volume_now next = hints_volume command next carried.digest carried.pending ∙ volume ∙ sym others.locks.lasts.geometry
+
   -- no digest is waited for: no command on slots asks for one
-  quiet_of : (come : Come) → plans.StandsBehind w h after old.doing come → new.doing ≡ plans.later_of come
-      → StandsBehind command w e h after (Slots new) (step_of come).next
-  quiet_of (comes.More later) stands is = (
+  quiet_of : (come : Come) (next : Next) → plans.StandsBehind w h looks old.doing come → new.doing ≡ plans.later_of come
+      → StandsBehind command w e h (after next) (Slots new) (step_of come).next
+  quiet_of (comes.More later) next stands is = (
     (host, ap command_of is ∙ stands.1 ∙ of),
-    (subst (λ (doing : Doing). PlanStands w h after doing) (sym is) stands.0, cached),
+    (subst (λ (doing : Doing). PlanStands w h looks doing) (sym is) stands.0, cached, volume_now next),
   )
-  quiet_of (comes.Answered answer) stands is = record { watched = stands; cached = cached }
-  quiet_of (comes.Uncalled answer) stands is = record { watched = stands; cached = cached }
+  quiet_of (comes.Answered answer) next stands is = record { watched = stands; volume = volume_now next; cached = cached }
+  quiet_of (comes.Uncalled answer) next stands is = record { watched = stands; volume = volume_now next; cached = cached }
 
-  noted_of : (come : Come) (n : Notes) → plans.Behind h w after come n → new.doing ≡ plans.later_of come
-      → NotedBehind command w h after (Slots new) (step_of come).next n
-  noted_of (comes.More later) n noted is = subst (λ (doing : Doing). Agrees h w after doing n) (sym is) noted
-  noted_of (comes.Answered answer) n noted is = noted
-  noted_of (comes.Uncalled answer) n noted is = noted
+  noted_of : (come : Come) (next : Next) (n : Notes) → plans.Behind h w looks come n → new.doing ≡ plans.later_of come
+      → n.pending ≡ (after next).pending.entries → NotedBehind command w h (after next) (Slots new) (step_of come).next n
+  noted_of (comes.More later) next n noted is pending =
+      (subst (λ (doing : Doing). Agrees h w looks doing n) (sym is) noted, pending)
+  noted_of (comes.Answered answer) next n noted is pending =
+      record { rests = noted.rests; watch_is = noted.watch_is; pending_is = pending }
+  noted_of (comes.Uncalled answer) next n noted is pending =
+      record { rests = noted.rests; watch_is = noted.watch_is; pending_is = pending }
 
-  pub slots_stepped : slots.HasStepped h v w watch after old.doing new.doing step
-      → HasStepped command h v w e watch after (Slots old) (Slots new) step
+  quiet_now : IsQuiet command
+  quiet_now = subst IsQuiet of (slots_quiet old.doing)
+
+  pub slots_stepped : slots.HasStepped h v w carried.watch looks old.doing new.doing step
+      → HasStepped command h v w e carried (after step.next) (Slots old) (Slots new) step
   slots_stepped did =
-      let owed = subst (λ (k : Command). OwesStep k h v w step (Agrees h v watch old.doing) (plans.Behind h w after did.come)) of did.owes in record {
+      let owed = subst (λ (k : Command). OwesStep k h v w step (Agrees h v carried.watch old.doing) (plans.Behind h w looks did.come)) of did.owes in
+      record {
         owes = record {
           made = owed.made;
           called = owed.called;
           others = owed.others;
-          quiet = owed.quiet;
+          quiet = λ n noted. owed.quiet n noted.0;
           owes = λ n noted.
-              let (later, owes, behind) = owed.owes n noted in (
+              let (later, owes, behind) = owed.owes n noted.0 in
+              let pending = pending_step v.locks.geometry h command v.locks.disk w.locks.disk owed.made step.placed n later carried.digest step.next
+              carried.pending (quiet_hints command quiet_now) owes noted.1 (quiet_digest command carried.digest n.digests quiet_now) in (
                 later,
                 owes,
-                subst (λ (s : Step). NotedBehind command w h after (Slots new) s.next later) (sym did.step_is)
-                    (noted_of did.come later behind did.later_is),
+                subst (λ (s : Step). NotedBehind command w h (after step.next) (Slots new) s.next later) (sym did.step_is)
+                    (noted_of did.come step.next later behind did.later_is pending),
               );
         };
-        stands = subst (λ (s : Step). StandsBehind command w e h after (Slots new) s.next) (sym did.step_is)
-            (quiet_of did.come did.stands did.later_is);
+        stands = subst (λ (s : Step). StandsBehind command w e h (after step.next) (Slots new) s.next) (sym did.step_is)
+            (quiet_of did.come step.next did.stands did.later_is);
       }

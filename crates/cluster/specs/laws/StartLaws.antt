@@ -21,7 +21,7 @@ use Rattle.host_notes.specs.laws.KeyMemories.{remembered_start}
 use Rattle.host_runs.specs.DeviceCalls.{OnImage}
 use Rattle.host_runs.specs.Notes.{no_notes}
 use Rattle.recover_plan.specs.laws.RegisterLaws.{nothing_watched}
-use Rattle.watch.specs.Looks.{nothing}
+use Rattle.cluster.specs.Carries.{fresh}
 use Rattle.cluster.specs.Agreements.{Agree, IsHead, IsKnownLine, IsSound, IsStanding, given_in}
 use Rattle.cluster.specs.Parts.{IsOpenFrom}
 use Rattle.cluster.specs.Plans.{IsResting}
@@ -108,22 +108,24 @@ module _ (device : DiskSeen) (w : Workload) (room : Room) (is : IsWorkload w) (k
     geometry = refl;
     volume = is.geometry;
     long = long_now;
-    seats = ap (λ (ss : List Seat). length ss) ready.seats ∙ length-replicate w.geometry.hosts resting;
+    seats = ap (λ (ss : List Seat). length ss) ready.seats ∙ length-replicate w.geometry.hosts (resting w.geometry);
     heads = ready.heads.long;
     head = head_now;
     past = λ p line at earlier. absurd (omega (arith, earlier));
     events = no_events;
   }
 
-  seat_now : (h : ℕ) → seat_at v h ≡ resting
-  seat_now h = ap (λ (ss : List Seat). slice_index_or ss h resting) ready.seats ∙ each_same w.geometry.hosts resting h
+  seat_now : (h : ℕ) → seat_at v h ≡ resting w.geometry
+  seat_now h =
+      ap (λ (ss : List Seat). slice_index_or ss h (resting w.geometry)) ready.seats ∙ each_same w.geometry.hosts (resting w.geometry) h
 
   host_now : (h : ℕ) → host_at v.world.locks h ≡ dropped
   host_now h = each_same 16 dropped h
 
-  rests_now : (h : ℕ) → IsResting v.world v.cache h nothing
+  rests_now : (h : ℕ) → IsResting v.world v.cache h (fresh w.geometry)
   rests_now h = record {
     watched = nothing_watched v.world h;
+    volume = refl;
     cached = record {
       volume = ready.volume;
       known = λ t p of kept. let both : None ≡ Some p = sym (ready.nothing h t) ∙ kept in absurd cc;
@@ -137,7 +139,7 @@ module _ (device : DiskSeen) (w : Workload) (room : Room) (is : IsWorkload w) (k
   first_standing : IsStanding v
   first_standing = record {
     stands = λ h below.
-        subst (λ (s : Seat). PlanStandsOf (at_command v h) v.world v.cache h s.watch s.plan) (sym (seat_now h)) (rests_now h);
+        subst (λ (s : Seat). PlanStandsOf (at_command v h) v.world v.cache h s.carried s.plan) (sym (seat_now h)) (rests_now h);
     busy = λ h below busy. absurd (idle_seat h busy);
     joined = λ h below busy. absurd (idle_seat h busy);
   }
@@ -151,7 +153,7 @@ module _ (device : DiskSeen) (w : Workload) (room : Room) (is : IsWorkload w) (k
   pub first_agree : Agree v (λ host. no_notes)
   first_agree = record {
     noted = λ h below.
-        subst (λ (s : Seat). PlanNotedOf (at_command v h) v.world h s.watch s.plan no_notes) (sym (seat_now h))
+        subst (λ (s : Seat). PlanNotedOf (at_command v h) v.world h s.carried s.plan no_notes) (sym (seat_now h))
         (record {
           rests = record {
             remembered = remembered_start v.world.locks.geometry (host_at v.world.locks h) (host_now h);
@@ -159,6 +161,7 @@ module _ (device : DiskSeen) (w : Workload) (room : Room) (is : IsWorkload w) (k
             between = refl;
           };
           watch_is = refl;
+          pending_is = refl;
         });
     left = λ h below. rw (no_death h) (ap (λ (s : Seat). s.left) (seat_now h));
   }

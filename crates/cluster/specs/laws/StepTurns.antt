@@ -1,5 +1,5 @@
 -- A step of a plan is a turn of its host.
-use Rattle.std.proofs.Common.{◌≡◌, ◌≢◌, ◌+◌, ◌-◌, ◌==◌, ◌&&◌, ℕ, Bool, true, false, List, Option, Some, None, is_none, is_some, if◌then◌else◌, refl, ap, sym, subst, ◌∙◌, arith}
+use Rattle.std.proofs.Common.{◌≡◌, ◌≢◌, ◌+◌, ◌-◌, ◌==◌, ◌&&◌, ℕ, Bool, true, false, Option, Some, None, is_none, is_some, if◌then◌else◌, refl, ap, sym, subst, ◌∙◌, arith}
 use Rattle.std.proofs.lemmas.Bool.{eq-eqb, eqb-true}
 use Rattle.vol_base.specs.declared.answer.Answer.{Answer}
 use Rattle.vol_base.specs.declared.answer.Answer.TheVariants as answers
@@ -28,13 +28,13 @@ use Rattle.host_runs.specs.Steps.{IsDeath, notes_now}
 use Rattle.plan_parts.specs.Steps.{OwesStep, ended_of}
 use Rattle.recover_plan.specs.laws.JoinFinds.{dropped_rests}
 use Rattle.recover_plan.specs.laws.RegisterLaws.{nothing_watched}
-use Rattle.watch.specs.declared.watch.Look.{Look}
-use Rattle.watch.specs.Looks.{nothing}
+use Rattle.cluster.specs.Carries.{fresh}
+use Rattle.cluster.specs.declared.carried.Carried.{Carried}
 use Rattle.cluster.specs.Dropping.{IsDroppedIn}
 use Rattle.cluster.specs.HostTurns.{IsHostTurn}
 use Rattle.file_plans.specs.laws.PlanLaws.{stands_at}
 use Rattle.cluster.specs.Plans.{IsPlanned, NotedBehind, PlanAt, PlanNoted, StandsBehind}
-use Rattle.cluster.specs.declared.plan.Plan.TheVariants.{Collects, Files, Slots}
+use Rattle.cluster.specs.declared.plan.Plan.TheVariants.{Collects, Files, Hints, Slots}
 use Rattle.cluster.specs.Seats.{HasMoved, IsLeft, MakesTurn, PlanNotedOf, PlanStandsOf, death_behind, is_last, joined_of, left_behind, less}
 use Rattle.cluster.specs.declared.plan.Plan.{Plan}
 use Rattle.cluster.specs.declared.seat.Seat.{Seat}
@@ -144,16 +144,17 @@ module _ (g : Geometry) (h : ℕ) (death : Option ℕ) (command : Command) (old 
   }
 
 -- the cache is of the volume
-pub plan_volume : (v : WorldView) (c : Cache) (h : ℕ) (watch : List (Option Look)) (plan : Plan) → PlanAt v c h watch plan
+pub plan_volume : (v : WorldView) (c : Cache) (h : ℕ) (carried : Carried) (plan : Plan) → PlanAt v c h carried plan
     → c.volume ≡ v.locks.geometry
-plan_volume v c h watch (Files plan) at = (stands_at v c plan.core plan.stage at.0).cached.volume
-plan_volume v c h watch (Slots plan) at = at.1.volume
-plan_volume v c h watch (Collects plan) at = at.1.cached.volume
+plan_volume v c h carried (Files plan) at = (stands_at v c plan.core plan.stage at.0).cached.volume
+plan_volume v c h carried (Slots plan) at = at.1.volume
+plan_volume v c h carried (Hints plan) at = at.1.cached.volume
+plan_volume v c h carried (Collects plan) at = at.1.cached.volume
 
 module _ (command : Command) (h : ℕ) (v w : WorldView) (d : Cache) (old mid : Seat) (step : Step) (planned : IsPlanned h command)
     (moved : HasMoved command h v w d old mid step) where
-  noted_before : (n : Notes) → PlanNotedOf command v h old.watch old.plan n → PlanNoted command v h old.watch moved.before n
-  noted_before n noted = subst (λ (p : Option Plan). PlanNotedOf command v h old.watch p n) moved.was noted
+  noted_before : (n : Notes) → PlanNotedOf command v h old.carried old.plan n → PlanNoted command v h old.carried moved.before n
+  noted_before n noted = subst (λ (p : Option Plan). PlanNotedOf command v h old.carried p n) moved.was noted
 
   joined : joined_of v h command old.plan ≡ joined_in command
   joined = ap (λ (p : Option Plan). joined_of v h command p) moved.was
@@ -164,21 +165,21 @@ module _ (command : Command) (h : ℕ) (v w : WorldView) (d : Cache) (old mid : 
   as_joined death made ended disk n later turn =
       subst (λ (b : Bool). IsHostTurn v.locks.geometry h b death command v.locks.disk disk made step.placed ended n later) (sym joined) turn
 
-  abbrev owed : OwesStep command h v w step (PlanNoted command v h old.watch moved.before) (NotedBehind command w h mid.watch moved.after step.next)
+  abbrev owed : OwesStep command h v w step (PlanNoted command v h old.carried moved.before) (NotedBehind command w h mid.carried moved.after step.next)
   owed = moved.stepped.owes
 
   counted : (left : Option ℕ) → (step.called && is_last left) ≡ (is_some owed.made && is_last left)
   counted left = ap (λ (b : Bool). b && is_last left) owed.called
 
   -- the command goes on, or is answered
-  stands_then : (next : Next) → StandsBehind command w d h mid.watch moved.after next
-      → PlanStandsOf command w d h mid.watch (if is_none (ended_of next) then Some moved.after else None)
+  stands_then : (next : Next) → StandsBehind command w d h mid.carried moved.after next
+      → PlanStandsOf command w d h mid.carried (if is_none (ended_of next) then Some moved.after else None)
   stands_then nexts.More stands = stands
   stands_then (nexts.Work block) stands = absurd stands
   stands_then (nexts.Answered answer) stands = stands
 
-  noted_then : (next : Next) (n : Notes) → NotedBehind command w h mid.watch moved.after next n
-      → PlanNotedOf command w h mid.watch (if is_none (ended_of next) then Some moved.after else None) n
+  noted_then : (next : Next) (n : Notes) → NotedBehind command w h mid.carried moved.after next n
+      → PlanNotedOf command w h mid.carried (if is_none (ended_of next) then Some moved.after else None) n
   noted_then nexts.More n noted = noted
   noted_then (nexts.Work block) n noted = absurd noted
   noted_then (nexts.Answered answer) n noted = noted
@@ -218,10 +219,10 @@ module _ (command : Command) (h : ℕ) (v w : WorldView) (d : Cache) (old mid : 
       ∙ ap (λ (l : Option ℕ). left_behind (ended_of step.next) (if is_some owed.made then less l else l)) moved.left
       ∙ ap (left_behind (ended_of step.next)) (called_left owed.made old.left) in
       let plan_is : new.plan ≡ (if is_none (ended_of step.next) then Some moved.after else None) = ap (λ (s : Seat). s.plan) is ∙ moved.is in
-      let watch_is : new.watch ≡ mid.watch = ap (λ (s : Seat). s.watch) is in
+      let carried_is : new.carried ≡ mid.carried = ap (λ (s : Seat). s.carried) is in
       record {
         made = owed.made;
-        stands = rw (plan_is, watch_is) (stands_then step.next moved.stepped.stands);
+        stands = rw (plan_is, carried_is) (stands_then step.next moved.stepped.stands);
         plan = ap is_some plan_is ∙ plan_then (ended_of step.next);
         goes = λ on. joined;
         turn = λ death n noted left.
@@ -231,7 +232,7 @@ module _ (command : Command) (h : ℕ) (v w : WorldView) (d : Cache) (old mid : 
                   (living v.locks.geometry h death command v.locks.disk w.locks.disk owed.made step.placed (ended_of step.next) n later owes
                   (owed.quiet n (noted_before n noted))
                   (no_death owed.made v.locks.geometry h command v.locks.disk.state step.placed n death old.left left not_last)),
-              rw (plan_is, watch_is) (noted_then step.next later behind),
+              rw (plan_is, carried_is) (noted_then step.next later behind),
               subst (λ (l : Option ℕ). IsLeft (death_behind command (ended_of step.next) death) later.dying l) (sym left_is)
                   (left_then owed.made step.placed (ended_of step.next) w.locks.disk death n later left not_last owes.noted),
             );
@@ -245,11 +246,12 @@ module _ (command : Command) (h : ℕ) (v w : WorldView) (d : Cache) (old mid : 
       let now_last : (is_some owed.made && is_last old.left) ≡ true =
       sym (counted old.left) ∙ ap (λ (l : Option ℕ). step.called && is_last l) (sym moved.left) ∙ last in
       let plan_is : new.plan ≡ None = ap (λ (s : Seat). s.plan) dropped.is in
-      let watch_is : new.watch ≡ nothing = ap (λ (s : Seat). s.watch) dropped.is in
+      let carried_is : new.carried ≡ fresh w.locks.geometry = ap (λ (s : Seat). s.carried) dropped.is in
       record {
         made = owed.made;
-        stands = rw (plan_is, watch_is) (record {
+        stands = rw (plan_is, carried_is) (record {
           watched = nothing_watched x h;
+          volume = sym dropped.world.notes.geometry;
           cached = nothing_cached x d e h (volume ∙ sym dropped.world.notes.geometry) dropped.cache;
         });
         plan = ap is_some plan_is;
@@ -265,8 +267,10 @@ module _ (command : Command) (h : ℕ) (v w : WorldView) (d : Cache) (old mid : 
                   (dying v.locks.geometry h death command v.locks.disk w.locks.disk owed.made step.placed (ended_of step.next) n later owes
                   (owed.quiet n (noted_before n noted)) (planned_calls h command planned)
                   (has_death owed.made v.locks.geometry h command v.locks.disk.state step.placed n death old.left left now_last))),
-              rw (plan_is, watch_is) (dropped_rests x h (plan_moment v.locks.geometry h command v.locks.disk w.locks.disk owed.made step.placed n)
-                  dropped.world.notes.mine),
+              rw (plan_is, carried_is) (
+                  let rests = dropped_rests x h (plan_moment v.locks.geometry h command v.locks.disk w.locks.disk owed.made step.placed n)
+                  dropped.world.notes.mine in record { rests = rests.rests; watch_is = rests.watch_is; pending_is = refl }
+                  ),
               ap (λ (s : Seat). s.left) dropped.is,
             );
       }

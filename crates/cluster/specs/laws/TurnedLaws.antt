@@ -44,9 +44,9 @@ module _ (v : PartsView) (h position : ℕ) (line : Line) (w : WorldView) (d : C
   abbrev s : (ℕ → Notes) → RunState
   s notes = state_of v notes
 
-  noted_here : (notes : ℕ → Notes) → Agree v notes → PlanNotedOf line.command v.world h (seat_at v h).watch (seat_at v h).plan (notes h)
+  noted_here : (notes : ℕ → Notes) → Agree v notes → PlanNotedOf line.command v.world h (seat_at v h).carried (seat_at v h).plan (notes h)
   noted_here notes agree =
-      subst (λ (c : Command). PlanNotedOf c v.world h (seat_at v h).watch (seat_at v h).plan (notes h))
+      subst (λ (c : Command). PlanNotedOf c v.world h (seat_at v h).carried (seat_at v h).plan (notes h))
       (command_there v h line (line_there v h position line next is)) (agree.noted h below)
 
   -- the turn in the words of the run
@@ -54,7 +54,7 @@ module _ (v : PartsView) (h position : ℕ) (line : Line) (w : WorldView) (d : C
       → (later : Notes)
       × IsHostTurn v.workload.geometry h (is_joined v.workload.lines v.ledger.answers h) death line.command (disk_of v) w.locks.disk act.made.made
       done.placed done.ended (notes h) later
-      × PlanNotedOf line.command w h seat.watch seat.plan later
+      × PlanNotedOf line.command w h seat.carried seat.plan later
       × IsLeft (death_behind line.command done.ended death) later.dying seat.left
   turn_of notes agree =
       let (later, turn, noted, left) = act.made.turn death (notes h) (noted_here notes agree) (agree.left h below) in (

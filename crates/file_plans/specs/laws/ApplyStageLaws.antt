@@ -90,7 +90,7 @@ module _ (v w : WorldView) (c d : Cache) (core : Core) (before : Stage) (is : Co
       → ((command : Command) (n : Notes) → Noted command core.host w core.outcome n → NotedAt command w core after n)
       → Went v w d core core before goes after
   goes_at after cached stands behind =
-      went_on v w d core core before e None refl refl (base_key v c core is base) later core.outcome (λ some. absurd cc) noted
+      went_on v w d core core before e None refl refl (base_key v c core is base) later core.outcome (λ some. absurd cc) tt noted
       (λ command n. Noted command core.host w core.outcome n) calls after cached stands (λ command n at. at.asks)
       (λ command n at. behind command (with_place None n) (noted_still command core.host w core.outcome n at))
 
@@ -102,7 +102,7 @@ module _ (v w : WorldView) (c d : Cache) (core : Core) (before : Stage) (is : Co
       subst (λ (s : Step). Went v w d core new before s after) (sym is_step)
       (subst (λ (k : Core). Went v w d core k before (step_of step.next) after) (sym is_new)
       (went_rest v w d core (coming core taken core.outcome) before e None refl refl (base_key v c core is base) later core.outcome
-      (λ some. absurd cc) noted (λ command n. Noted command core.host w core.outcome n) calls step.next after now
+      (λ some. absurd cc) tt noted (λ command n. Noted command core.host w core.outcome n) calls step.next after now
       empty may (λ command n at. at.asks) (λ command n at. noted_still command core.host w core.outcome n at) rest))
 
 -- the base stands, with what is kept now

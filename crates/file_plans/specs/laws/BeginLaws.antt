@@ -46,6 +46,7 @@ went_from v w d old new before from step after weaker went = record {
   call = went.call;
   cached = went.cached;
   stands = went.stands;
+  in_range = went.in_range;
   owes = λ command runs.
       let did = went.owes command runs in record {
         made = did.made;
@@ -218,6 +219,7 @@ module _ (v : WorldView) (c : Cache) (core : Core) (is : IsOutside v c core) whe
       call = refl;
       cached = is.cached;
       stands = tt;
+      in_range = tt;
       owes = λ command runs.
           step_closed command core.host (file_of core.call) v (NotedAt command v core stages.Begins)
           (subst (Runs command) (closes core.call read wants) runs) (λ n at. at.noted) consistent is.ready out unread;

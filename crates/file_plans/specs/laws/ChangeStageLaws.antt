@@ -73,4 +73,4 @@ pub change_purged : (v w : WorldView) (c : Cache) (core : Core) (before : Stage)
 change_purged v w c core before is later es a step after stands noted did is_step is_after =
     went_as v w c core core before step goes after (stages.Applies a) is_step is_after
     (subst (λ (o : Outcome). Went v w c core (coming core core.taken o) before goes (stages.Applies a)) (sym stands.comes)
-    (record_put v w c core before is later core.call None es a stands noted refl (may_open core.call) did))
+    (record_put v w c core before is later core.call None es a stands noted refl (may_open core.call) tt did))

@@ -75,6 +75,7 @@ closed_went v w c d core stage e f is joined before after noted quiet cached rea
   call = refl;
   cached = cached;
   stands = tt;
+  in_range = tt;
   owes = λ command runs.
       step_closes command core.host f v w e (NotedAt command v core stage) (subst (Runs command) is runs)
       (joined_has_key v core.host before joined) (noted command) (quiet command runs) after ready unheld (unread command);

@@ -116,7 +116,7 @@ module _ (v w : WorldView) (c : Cache) (core : Core) (stage : Stage) (outside : 
       → Went v w c core core stage (step_of nexts.More) next
   hold_goes next cached stands waits behind =
       went_on v w c core core stage asked.event None refl refl (joined_has_key v core.host before outside.ready.joined) after outcomes.Open
-      (λ some. refl) noted After
+      (λ some. refl) tt noted After
       (λ command runs. quiet_placed command core.host v w asked.event _ _ (asked.quiet command (is command runs)))
       next cached stands waits behind
 
@@ -126,7 +126,7 @@ module _ (v w : WorldView) (c : Cache) (core : Core) (stage : Stage) (outside : 
       → Went v w c core (record core { outcome = outcomes.Busy key }) stage (step_of (nexts.Answered (answers.Busy key))) stages.Over
   hold_busy key cached ready behind =
       went_answered v w c core (record core { outcome = outcomes.Busy key }) stage asked.event None refl refl
-      (joined_has_key v core.host before outside.ready.joined) after outcomes.Open (λ some. refl) noted After
+      (joined_has_key v core.host before outside.ready.joined) after outcomes.Open (λ some. refl) tt noted After
       (λ command runs. quiet_placed command core.host v w asked.event _ _ (asked.quiet command (is command runs)))
       (outcomes.Busy key) stages.Over (λ is. cc) cached ready (may core.call)
       (λ command n is. noted_still command core.host w (outcomes.Busy key) n (behind command n is))

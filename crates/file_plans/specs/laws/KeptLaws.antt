@@ -89,7 +89,7 @@ module _ (g : Geometry) (known later : Known) (same : (t : Table) → HasTable g
   -- so what a call does by them is right still
   sight_again : (call : FileCall) (sight : Sight) → file_of call < g.files → IsSight g known call sight → IsSight g later call sight
   sight_again call (sights.Needs t) file is = (is.0, is.1, same t (file_table_has g t is.0) ∙ is.2, is.3)
-  sight_again (Plain call) (sights.Settled reply) file is = λ image super reads. is image super (reads_back image reads)
+  sight_again (Plain call) (sights.Settled reply) file is = (is.0, λ image super reads. is.1 image super (reads_back image reads))
   sight_again (Plain (calls.Read f i)) (sights.Shows d) file is = (is.0, block_again f i (Names d is.0) file is.1)
   sight_again (Plain (calls.Write f i block)) (sights.Own d) file is = block_again f i (Names d false) file is
   sight_again (Plain (calls.Write f i block)) (sights.Fresh None) file is = block_again f i Hole file is

@@ -97,7 +97,7 @@ module _ (v : WorldView) (c : Cache) (h : ℕ) (is : Consistent v.locks) (cached
   -- a call that is settled
   pub settled_look : (call : PlainCall) (reply : PlainReply) → IsSight g (kept_at c h) (Plain call) (Settled reply)
       → Sure v.locks h (IsLook g call reply)
-  settled_look call reply sight = reading (IsLook g call reply) (λ image found reads. sight image found.agrees.valid.geometry reads)
+  settled_look call reply sight = reading (IsLook g call reply) (λ image found reads. sight.1 image found.agrees.valid.geometry reads)
 
   module _ (f i d : ℕ) where
     pointer_named : (image : Image) → Finds v.locks h image → Reads g (kept_at c h) image → (shared : Bool)

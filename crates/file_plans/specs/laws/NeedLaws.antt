@@ -46,7 +46,7 @@ use Rattle.file_plans.specs.declared.state.Core.{Core}
 use Rattle.file_plans.specs.declared.stage.Stage.{Stage}
 use Rattle.file_plans.specs.declared.stage.Stage.TheVariants as stages
 use Rattle.file_plans.specs.laws.RestLaws.{went_on}
-use Rattle.file_plans.specs.Sights.{IsSight}
+use Rattle.file_plans.specs.Sights.{IsSight, MayReply}
 use Rattle.file_plans.specs.declared.call.FileCall.TheVariants.{Close}
 use Rattle.file_plans.specs.declared.sight.Sight.TheVariants as sights
 use Rattle.file_plans.specs.laws.KnownLaws.{place_settled_after, settled_look}
@@ -150,7 +150,7 @@ module _ (v w : WorldView) (c d : Cache) (core : Core) (which : Table) (table : 
   pub read_went : Went v w d core core stages.Sees (record { placed = None; called = true; next = nexts.More }) stages.Sees
   read_went =
       went_on v w d core core stages.Sees read_event None refl refl (joined_has_key v core.host before is.0.base.joined) after core.outcome
-      (λ some. absurd cc) (λ command n noted. noted) (λ command n. Noted command core.host w core.outcome n)
+      (λ some. absurd cc) tt (λ command n noted. noted) (λ command n. Noted command core.host w core.outcome n)
       (λ command runs. quiet_placed command core.host v w read_event _ _ (quiet command)) stages.Sees read_base.cached
       (record { base = read_base; empty = read_empty; comes = is.0.comes }, is.1) (λ command n noted. noted.asks)
       (λ command n noted. noted_still command core.host w core.outcome n noted)
@@ -168,6 +168,8 @@ module _ (v w : WorldView) (c d : Cache) (core : Core) (which : Table) (table : 
       cases (Plain call) same settles =
           placed_went v w c d core reply _ next stage is before after read_base read_empty
           (subst (λ (k : FileCall). MayComeTo k (outcomes.Placed reply)) (sym same) tt)
+          (subst (λ (k : FileCall). MayReply v.locks.geometry reply k) (sym same)
+          (subst (λ (g : Geometry). MayReply g reply (Plain call)) looks.geometry settles.0))
           (λ command runs. settled_call v w core.host command call reply _ _ _ (subst (Runs command) same runs)
           (place_settled_after v w core.host call reply looks
           (settled_look w d core.host after read_base.cached read_empty call reply settles)) (quiet command)) rest

@@ -106,6 +106,7 @@ went_steps v w d old new before step after went = cases step.next refl
     cases (nexts.Work block) is = absurd (subst (λ (n : Next). StandsBehind w d new n after) is went.stands)
     cases (nexts.Answered answer) is = record {
       cached = went.cached;
+      in_range = went.in_range;
       owes = λ command runs.
           subst (λ (h : ℕ). OwesStep command old.host v w step (NotedAt command v old before) (λ n. IsAtRest w h n)) went.host
           (subst (λ (n : Next). OwesStep command old.host v w step (NotedAt command v old before) (NotedBehind command w new n after)) is
@@ -152,6 +153,7 @@ cut_steps v w c e d old new before why by step at consistent refused is leaves f
     let stands = stands_at v c old before at in
     subst (λ (s : Step). HasStepped v w d old new before s stages.Over s.next) (sym made) (record {
       cached = cached_nothing w e d old.host (leaves.volume ∙ stands.cached.volume ∙ sym geometry) forgets;
+      in_range = tt;
       owes = λ command runs.
           step_cut command old.host v w why by old.outcome (NotedAt command v old before) is (on_file command old.call runs)
           (joined_has_key v old.host consistent stands.joined) (valid_now v consistent) (λ n noted. stands.noted command n apart noted)

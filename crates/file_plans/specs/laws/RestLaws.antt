@@ -32,6 +32,7 @@ use Rattle.plan_parts.specs.declared.outcome.Outcome.TheVariants as outcomes
 use Rattle.plan_parts.specs.laws.StepLaws.{IsAnswerOf, step_answers, step_goes_on}
 use Rattle.file_plans.specs.Bases.{IsBase}
 use Rattle.file_plans.specs.Calls.{Runs}
+use Rattle.file_plans.specs.Sights.{MayPlace}
 use Rattle.file_plans.specs.Stands.{At, NotedAt}
 use Rattle.file_plans.specs.Went.{IsRest, Went}
 use Rattle.file_plans.specs.declared.call.FileCall.{FileCall}
@@ -82,7 +83,7 @@ answers_it command (Close f) outcomes.Full runs may some = absurd cc
 
 module _ (v w : WorldView) (d : Cache) (old new : Core) (before : Stage) (e : Event) (placed : Option PlainReply)
     (host : new.host ≡ old.host) (call : new.call ≡ old.call) (some : key_at v.locks old.host ≢ 0) (c : Consistent w.locks)
-    (was : Outcome) (once : IsSome placed → placed_of was ≡ None)
+    (was : Outcome) (once : IsSome placed → placed_of was ≡ None) (range : MayPlace v.locks.geometry old.call placed)
     (noted : (command : Command) (n : Notes) → NotedAt command v old before n → Noted command old.host v was n)
     (Between : Command → Notes → Type 0)
     (calls : (command : Command) → Runs command old.call
@@ -97,6 +98,7 @@ module _ (v w : WorldView) (d : Cache) (old new : Core) (before : Stage) (e : Ev
     call = call;
     cached = cached;
     stands = stands;
+    in_range = range;
     owes = λ command runs.
         step_goes_on command old.host v w e placed (on_file command old.call runs) some was once (NotedAt command v old before)
         (Between command) (noted command) (calls command runs) (NotedAt command w new after) (waits command) (behind command);
@@ -112,6 +114,7 @@ module _ (v w : WorldView) (d : Cache) (old new : Core) (before : Stage) (e : Ev
     call = call;
     cached = cached;
     stands = tt;
+    in_range = range;
     owes = λ command runs.
         subst (λ (h : ℕ). OwesStep command old.host v w
         (record { placed = placed; called = true; next = nexts.Answered (answer_of outcome) }) (NotedAt command v old before)

@@ -51,7 +51,7 @@ use Rattle.file_plans.specs.declared.stage.Stage.{Stage}
 use Rattle.file_plans.specs.declared.stage.Stage.TheVariants as stages
 use Rattle.file_plans.specs.laws.RestLaws.{went_rest}
 use Rattle.file_plans.specs.Says.{HasBlock}
-use Rattle.file_plans.specs.Sights.{IsSight}
+use Rattle.file_plans.specs.Sights.{IsSight, MayReply}
 use Rattle.file_plans.specs.declared.call.FileCall.TheVariants.{Close}
 use Rattle.file_plans.specs.declared.sight.Sight.TheVariants as sights
 use Rattle.file_plans.specs.laws.KnownLaws.{block_named, block_shown, place_settled, place_settled_after, settled_look}
@@ -108,15 +108,15 @@ settled_call v w h command call reply e Before After is places quiet = record {
 -- the step is the place of its call, which is then answered
 pub placed_went : (v w : WorldView) (c d : Cache) (core : Core) (reply : PlainReply) (e : Event) (next : Next) (stage : Stage)
     → At v c core stages.Sees → Consistent v.locks → Consistent w.locks → IsBase w d core → Knows w core.host (RecordIs [])
-    → MayComeTo core.call (outcomes.Placed reply)
+    → MayComeTo core.call (outcomes.Placed reply) → MayReply v.locks.geometry reply core.call
     → ((command : Command) → Runs command core.call
     → PlacedCall command core.host v w e (Some reply) (Noted command core.host v core.outcome) (Noted command core.host w core.outcome))
     → IsRest core.taken (outcomes.Placed reply) next stage
     → Went v w d core (record core { outcome = outcomes.Placed reply }) stages.Sees (record { placed = Some reply; called = true; next = next })
     stage
-placed_went v w c d core reply e next stage is before after base empty may calls rest =
+placed_went v w c d core reply e next stage is before after base empty may range calls rest =
     went_rest v w d core (record core { outcome = outcomes.Placed reply }) stages.Sees e (Some reply) refl refl
-    (joined_has_key v core.host before is.0.base.joined) after core.outcome (λ some. ap placed_of is.0.comes) (λ command n noted. noted)
+    (joined_has_key v core.host before is.0.base.joined) after core.outcome (λ some. ap placed_of is.0.comes) range (λ command n noted. noted)
     (λ command n. Noted command core.host w core.outcome n) calls next stage (base_comes w d core (outcomes.Placed reply) base) empty may
     (λ command n noted. noted.asks)
     (λ command n noted. noted_placed command core.host w reply n
@@ -137,6 +137,7 @@ confirm_went v w c core reply next stage is before after sight did rest = cases 
     cases (Plain call) same sight =
         placed_went v w c c core reply did.event next stage is before after (base_looks v w c core did.looks is.0.base)
         (did.looks.facts (RecordIs []) is.0.empty) (subst (λ (k : FileCall). MayComeTo k (outcomes.Placed reply)) (sym same) tt)
+        (subst (λ (k : FileCall). MayReply v.locks.geometry reply k) (sym same) sight.0)
         (λ command runs. settled_call v w core.host command call reply did.event _ _ (subst (Runs command) same runs)
         (place_settled v w core.host call reply did.looks
         (settled_look v c core.host before is.0.base.cached is.0.empty call reply sight)) (did.quiet command core.outcome)) rest
@@ -179,7 +180,7 @@ shows_went v w c core d block next stage is before after sight has did others lo
         let named = block_named v c core.host before is.0.base.cached is.0.empty f i d sight.0 may sight.1 in
         let there = subst (λ (g : Geometry). HasBlock g (kept_at c core.host) f i (numbers.At d sight.0)) (sym looks.geometry) sight.1 in
         placed_went v w c c core reply _ next stage is before after base empty
-        (subst (λ (k : FileCall). MayComeTo k (outcomes.Placed reply)) (sym same) tt)
+        (subst (λ (k : FileCall). MayComeTo k (outcomes.Placed reply)) (sym same) tt) tt
         (λ command runs. settled_call v w core.host command (Read f i) reply _ _ _ (subst (Runs command) same runs)
         (place_settled_after v w core.host (Read f i) reply looks
         (block_shown w c core.host after base.cached empty f i d sight.0 block there (known (Pointer f i) named)))
@@ -232,6 +233,7 @@ own_went v w c core d done next stage is before after sight has did others valid
         (IsPlaced v.locks.geometry (Write (file_of k) (index_of k) (block_of k)) Done)) same placed in
         placed_went v w c c core Done _ next stage is before after base (wrote.facts (RecordIs []) (λ e. cc) is.0.empty)
         (subst (λ (k : FileCall). MayComeTo k (outcomes.Placed Done)) (sym same) tt)
+        (subst (λ (k : FileCall). MayReply v.locks.geometry Done k) (sym same) sight.pointer.has.1)
         (λ command runs.
         let plain : plain_call_of command ≡ Some (Write f i block) = subst (Runs command) same runs in
         placed_write command core.host v w (kinds.Number d) (block_of core.call).0 (Some Done) core.outcome done has did others valid

@@ -33,6 +33,7 @@ use Rattle.plan_parts.specs.laws.PlacedLaws.{noted_placed, quiet_placed}
 use Rattle.file_plans.specs.Bases.{IsBase, IsCached, MayComeTo}
 use Rattle.file_plans.specs.Calls.{Runs, is_write}
 use Rattle.file_plans.specs.Commits.{HasCommitted}
+use Rattle.file_plans.specs.Sights.{MayPlace, MayReply}
 use Rattle.file_plans.specs.Stands.{At, IsOpenBase, NotedAt}
 use Rattle.file_plans.specs.Went.{IsCutAt, IsRest, Went}
 use Rattle.file_plans.specs.declared.call.FileCall.{FileCall}
@@ -115,7 +116,7 @@ module _ (v w : WorldView) (c : Cache) (core : Core) (before : Stage) (is : Cons
       → ((command : Command) (n : Notes) → Noted command core.host w core.outcome n → NotedAt command w new after n)
       → Quiet core.host v w e → Went v w c core new before goes after
   goes_to new after host call now stands behind quiet =
-      went_on v w c core new before e None host call (base_key v c core is base) later core.outcome (λ some. cc) noted
+      went_on v w c core new before e None host call (base_key v c core is base) later core.outcome (λ some. cc) tt noted
       (λ command. Noted command core.host w core.outcome) (λ command runs. calls_at core.outcome command (quiet command core.outcome))
       after (subst (IsCached w c) host now.cached) stands (λ command n at. at.asks)
       (λ command n at. behind command (with_place None n) (unplaced command core.host w core.outcome n at))
@@ -132,7 +133,7 @@ module _ (v w : WorldView) (c : Cache) (core : Core) (before : Stage) (is : Cons
       subst (λ (s : Step). Went v w c core new before s after) (sym is_step)
       (subst (λ (k : Core). Went v w c core k before (record { placed = None; called = true; next = step.next }) after) (sym is_new)
       (went_rest v w c core (coming core taken outcome) before e None refl refl (base_key v c core is base) later core.outcome (λ some. cc)
-      noted (λ command. Noted command core.host w outcome)
+      tt noted (λ command. Noted command core.host w outcome)
       (λ command runs. calls_at outcome command
       (subst (λ (o : Outcome). QuietCall command core.host v w e (Noted command core.host v o) (Noted command core.host w outcome))
       (sym first) (quiet command runs)))
@@ -165,14 +166,15 @@ noted_by command h v (Some reply) n noted = noted_placed command h v reply n not
 pub record_put : (v w : WorldView) (c : Cache) (core : Core) (before : Stage) → Consistent v.locks → Consistent w.locks → (call : FileCall)
     (placed : Option PlainReply) (es : List Edit) (a : Applying) → IsOpenBase v c core
     → ((command : Command) (n : Notes) → NotedAt command v core before n → Noted command core.host v core.outcome n) → core.call ≡ call
-    → MayComeTo call (comes_by placed) → HasCommitted core.host v w call placed es a
+    → MayComeTo call (comes_by placed) → MayPlace v.locks.geometry call placed → HasCommitted core.host v w call placed es a
     → Went v w c core (coming core core.taken (comes_by placed)) before (record { placed = placed; called = true; next = nexts.More })
     (stages.Applies a)
-record_put v w c core before is later call placed es a stands noted same may did =
+record_put v w c core before is later call placed es a stands noted same may range did =
     let still : IsStill core.host v w = record { geometry = did.wrote.geometry; memory = did.wrote.memory; tables = did.tables } in
     let base = base_still v w c core still (comes_by placed) stands.base in
     went_on v w c core (coming core core.taken (comes_by placed)) before did.event placed refl refl (base_key v c core is stands.base) later
-    core.outcome (λ some. ap placed_of stands.comes) noted (λ command. Noted command core.host w outcomes.Open)
+    core.outcome (λ some. ap placed_of stands.comes)
+    (subst (λ (k : FileCall). MayPlace v.locks.geometry k placed) (sym same) range) noted (λ command. Noted command core.host w outcomes.Open)
     (λ command runs.
     placed_at v w c core before is later stands.base noted did.event placed command (Noted command core.host v outcomes.Open)
     (Noted command core.host w outcomes.Open)
@@ -185,13 +187,14 @@ record_put v w c core before is later call placed es a stands noted same may did
 pub record_placed : (v w : WorldView) (c : Cache) (core new : Core) (before : Stage) → Consistent v.locks → Consistent w.locks
     → (call : PlainCall) (es : List Edit) (a : Applying) (step : Step) (after : Stage) → IsOpenBase v c core
     → ((command : Command) (n : Notes) → NotedAt command v core before n → Noted command core.host v core.outcome n)
-    → core.call ≡ Plain call → HasCommitted core.host v w (Plain call) (Some replies.Done) es a
+    → core.call ≡ Plain call → MayReply v.locks.geometry replies.Done (Plain call)
+    → HasCommitted core.host v w (Plain call) (Some replies.Done) es a
     → new ≡ coming core core.taken (outcomes.Placed replies.Done)
     → step ≡ record { placed = Some replies.Done; called = true; next = nexts.More } → after ≡ stages.Applies a
     → Went v w c core new before step after
-record_placed v w c core new before is later call es a step after stands noted same did is_new is_step is_after =
+record_placed v w c core new before is later call es a step after stands noted same range did is_new is_step is_after =
     went_as v w c core new before step (record { placed = Some replies.Done; called = true; next = nexts.More }) after (stages.Applies a)
     is_step is_after
     (subst (λ (k : Core). Went v w c core k before (record { placed = Some replies.Done; called = true; next = nexts.More })
     (stages.Applies a)) (sym is_new)
-    (record_put v w c core before is later (Plain call) (Some replies.Done) es a stands noted same tt did))
+    (record_put v w c core before is later (Plain call) (Some replies.Done) es a stands noted same tt range did))

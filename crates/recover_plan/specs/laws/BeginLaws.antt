@@ -134,6 +134,7 @@ module _ (v : WorldView) (h of : ℕ) (watch : List (Option Look)) (c : Consiste
     };
     stands = stands.watched;
     tables = λ keeps uncut t p was. was;
+    volume = λ leaves uncut. absurd leaves;
     fewer = omega arith;
   }
 
@@ -158,6 +159,7 @@ begin_came h of v w watch after stage come says most came = record {
       (Behind h w after come) says came.owes;
   stands = behind come came.stands;
   tables = came.tables;
+  volume = λ leaves uncut. absurd leaves;
   fewer = let less = came.fewer in omega (arith, less, most);
 }
   where

@@ -70,6 +70,10 @@ use Rattle.recover_plan.specs.declared.replay.Replay.TheVariants as stages
 use Rattle.recover_plan.specs.laws.NoteLaws.{claimed_noting, fenced_noting, under_way_on}
 use Rattle.recover_plan.specs.laws.StageLaws.{base_on, ready_on, ready_still, recoverer_on, seen_on}
 use Rattle.recover_plan.specs.laws.StepLaws.{locks_else, there_on}
+use Rattle.shared_disk.specs.laws.CalledLaws.{key_called}
+use Rattle.std.specs.Prelude.{Contains}
+use Rattle.recover_plan.specs.Replays.{HasKey, IsMet}
+use Rattle.recover_plan.specs.laws.StepLaws.{key_kept, key_looked, locks_by, locks_same, shut_out}
 
 -- the key of a slot that is not free is one
 pub key_fits : (slot : Slot) → IsSlot slot → slot_key slot ≢ 0 → IsKey (slot_key slot)
@@ -109,6 +113,9 @@ none_next slots.Free = refl
 none_next (slots.Live key beat) = refl
 none_next (slots.Recovering key by) = refl
 
+one_target : (a b : ℕ) → Fences a ≡ Fences b → a ≡ b
+one_target a b is = cc
+
 -- what a slot that was found makes of the tries
 pub shown_by : (command : Command) (h own k : ℕ) (slot : List ℕ) (tries : Tries) → tries.shown ≡ None → tries.count ≡ k
     → (with_slot command h own slot tries).shown ≡ (with_slot command h own slot (record no_tries { count = k })).shown
@@ -132,6 +139,18 @@ module _ (v w : WorldView) (h of : ℕ) (is : Consistent v.locks) (later : Consi
 
     still : (slot : Slot) → IsThere v h of slot → IsThere w h of slot
     still slot = there_on v w h of slot did.geometry (ap key_of did.mine) fenced.registered fenced.told
+
+    still_met : (slot : Slot) → IsMet v h of slot → IsMet w h of slot
+    still_met slot met = record { there = still slot met.there; other = λ own. met.other (own ∙ ap key_of did.mine) }
+
+    -- the own key is registered still, where it was another one
+    own_kept : target.0 ≢ key_at v.locks h → HasKey w h
+    own_kept other =
+        subst (λ k. Contains (keys_of w.locks) k) (sym (ap key_of did.mine))
+        (elim (key_called (Fences target.0) Done v.locks.disk.state w.locks.disk.state (key_at v.locks h) did.acts.changes fenced.registered) [
+          | inl kept ↦ kept
+          | inr same ↦ absurd (other (one_target target.0 (key_at v.locks h) same))
+        ])
 
     no_test : (old new : List ℕ)
         → SwapsKind v.locks.geometry (kinds.Slot of) old new (Some (event (key_at v.locks h) (Fences target.0) Done)) → ⊥
@@ -168,7 +187,9 @@ module _ (v w : WorldView) (h of : ℕ) (is : Consistent v.locks) (later : Consi
       given = λ key. fenced.facts (Given key);
       tables = λ t p. fenced.facts (TableIs t p);
       slots = slots_same v w of fenced.told;
-      sees = λ there. subst (λ (r : Replay). SeesSlot w h of r) (sym is_next) (sees slot (still slot there));
+      sees = λ met. subst (λ (r : Replay). SeesSlot w h of r) (sym is_next) (sees slot (still_met slot met));
+      registered = λ met. own_kept (λ own. seen.other (sym is_key ∙ own));
+      locks = locks_same v w h did.mine;
       ready = ready_still v w h of did.geometry did.mine fenced.facts;
       quiet = λ command watch k recovers.
           subst (λ (s : Replay). QuietCall command h v w (event (key_at v.locks h) (Fences target.0) Done)
@@ -196,10 +217,10 @@ module _ (v w : WorldView) (h of : ℕ) (is : Consistent v.locks) (later : Consi
           off (slots.Recovering key by) seen is_key,
         )
 
-        sees : (slot : Slot) → IsThere w h of slot → SeesSlot w h of (behind_fence slot)
-        sees slots.Free there = there
-        sees (slots.Live key beat) there = there
-        sees (slots.Recovering key by) there = there
+        sees : (slot : Slot) → IsMet w h of slot → SeesSlot w h of (behind_fence slot)
+        sees slots.Free met = met.there
+        sees (slots.Live key beat) met = met.there
+        sees (slots.Recovering key by) met = met
 
         fewer : (slot : Slot) → steps_left v.locks.geometry (behind_fence slot) < steps_left v.locks.geometry (stages.Fence slot)
         fewer slots.Free = omega arith
@@ -227,7 +248,9 @@ module _ (v w : WorldView) (h of : ℕ) (is : Consistent v.locks) (later : Consi
       given = λ key. fenced.facts (Given key);
       tables = λ t p. fenced.facts (TableIs t p);
       slots = slots_same v w of fenced.told;
-      sees = still slot;
+      sees = λ met. still slot met.there;
+      registered = λ met. own_kept (λ own. met.other (sym is_key ∙ own));
+      locks = locks_same v w h did.mine;
       ready = ready_still v w h of did.geometry did.mine fenced.facts;
       quiet = λ command watch k recovers.
           fence_quiet command watch k (stages.FenceBy slot) (stages.Claim slot) refl refl
@@ -271,6 +294,8 @@ module _ (v w : WorldView) (h of : ℕ) (is : Consistent v.locks) (later : Consi
       slots = slots_written v w of (kinds.Slot of) (slot_bytes to) seen.base.below (λ y ne same. ne (let one : y ≡ of = cc in one))
           did.acts.changes.1;
       sees = λ there. tt;
+      registered = λ there. key_kept v w h (ap key_of did.mine) claimed.keys claimed.registered;
+      locks = locks_by v w h (ap (λ (m : HostState). m.held) did.mine) (ap (λ (m : HostState). m.reading) did.mine);
       ready = ready_on v w h of did.geometry (ap (λ (m : HostState). m.joined) did.mine)
           (λ r. ap (λ (m : HostState). holds m r) did.mine) (claimed.facts (RecordIs []));
       quiet = λ command watch k recovers.
@@ -339,6 +364,8 @@ module _ (v w : WorldView) (h of : ℕ) (is : Consistent v.locks) (later : Consi
                 (λ t. block_at v.locks.geometry t.image (kinds.Slot of) ≡ slot_bytes found) (λ t. ⊥) (there looks.registered)
                 (stands looks.registered) (λ t was now. did.0.acts.changes.1 (sym now ∙ was))),
           );
+      registered = λ there. key_looked v w h looks;
+      locks = locks_same v w h looks.memory;
       ready = ready_still v w h of looks.geometry looks.memory looks.facts;
       quiet = λ command watch k recovers.
           quiet_call command v w h (claim_call v.locks h of from) (Shows (slot_bytes found)) (host_at v.locks h) _ _ did.0 tt others
@@ -386,13 +413,16 @@ module _ (v w : WorldView) (h of : ℕ) (is : Consistent v.locks) (later : Consi
       → ((command : Command) (watch : List (Option Look)) → MayTakeOff command h (key_at v.locks h) watch stage
       → MayFence command h (key_at v.locks h) target.0 watch)
       → IsCutAt h of v w stage why
-  fence_cut target stage why refused may command watch k recovers =
-      cut_of command v w h (Fences target.0) 0 tt others _
-      (λ reply m turn run before. allowed_fence v.locks h m turn target.0 reply
-      (subst (λ (c : Command). MayFence c h (key_at v.locks h) target.0 m.old.watch) (sym run)
-      (subst (λ (looks : List (Option Look)). MayFence command h (key_at v.locks h) target.0 looks) (sym before.under_way.watch_is)
-      (may command watch before.may))))
-      AnyBlock why refused (never why refused)
+  fence_cut target stage why refused may = record {
+    cuts = λ command watch k recovers.
+        cut_of command v w h (Fences target.0) 0 tt others _
+        (λ reply m turn run before. allowed_fence v.locks h m turn target.0 reply
+        (subst (λ (c : Command). MayFence c h (key_at v.locks h) target.0 m.old.watch) (sym run)
+        (subst (λ (looks : List (Option Look)). MayFence command h (key_at v.locks h) target.0 looks) (sym before.under_way.watch_is)
+        (may command watch before.may))))
+        AnyBlock why refused (never why refused);
+    shut = shut_out v w h (Fences target.0) 0 AnyBlock why refused;
+  }
     where
       never : (why : StepNo) → FencesKey v.locks h target (Err why) w.locks → (at : ℕ) → why ≡ steps.Bad at → told_of v.locks ≡ None
       never (steps.Bad there) refused at bad = absurd refused.1.1.acts.changes
@@ -413,7 +443,11 @@ module _ (v w : WorldView) (h of : ℕ) (is : Consistent v.locks) (later : Consi
 
   pub claim_cut : (from : Slot) (why : StepNo) → IsSeen v h of from → ClaimsSlot v.locks h of from (Err why) w.locks
       → IsSound {T = Claim} (Err why) v.locks → IsCutAt h of v w (stages.Claim from) why
-  claim_cut from why seen refused sound command watch k recovers =
-      cut_of command v w h (claim_call v.locks h of from) (place_of v.locks.geometry (kinds.Slot of)) refl others _
-      (λ reply. claim_right from seen command recovers reply _) (FitsSlot Take of (host_at v.locks h)) why refused
-      (λ at bad. sound at (ap Err bad))
+  claim_cut from why seen refused sound = record {
+    cuts = λ command watch k recovers.
+        cut_of command v w h (claim_call v.locks h of from) (place_of v.locks.geometry (kinds.Slot of)) refl others _
+        (λ reply. claim_right from seen command recovers reply _) (FitsSlot Take of (host_at v.locks h)) why refused
+        (λ at bad. sound at (ap Err bad));
+    shut = shut_out v w h (claim_call v.locks h of from) (place_of v.locks.geometry (kinds.Slot of)) (FitsSlot Take of (host_at v.locks h)) why
+        refused;
+  }

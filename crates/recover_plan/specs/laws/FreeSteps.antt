@@ -165,6 +165,7 @@ module _ (v w : WorldView) (h of : ℕ) (dead : ℕ) (watch after : List (Option
     stands = watched_behind watched;
     tables = λ keeps uncut t p.
         (has_freed v w h of dead watch c later is swept others standing done did freed).facts (TableIs t p) (λ e. cc);
+    volume = λ leaves uncut. absurd leaves;
     fewer = omega arith;
   }
 

@@ -39,6 +39,7 @@ use Rattle.recover_plan.specs.Joins.{FindsOwn, IsDropped, IsLeftBy, join_found}
 use Rattle.recover_plan.specs.PlanSteps.{AreWatched, RestsWith, called_step}
 use Rattle.host_facts.specs.Facts.{locks_of}
 use Rattle.recover_plan.specs.CallsLeft.{calls_left}
+use Rattle.recover_plan.specs.KeptVolumes.{IsLeave}
 use Rattle.recover_plan.specs.KnownTables.{KeepsHolds}
 use Rattle.recover_plan.specs.Plans.{Agrees, Behind, Came, PlanStands, command_of, step_of}
 use Rattle.recover_plan.specs.RecoverNotes.{FoundNoted, IsUnderWay, key_found}
@@ -130,6 +131,7 @@ module _ (v u w : WorldView) (h : ℕ) (watch after : List (Option Look)) (k : �
           });
       stands = (stands, also ∙ sym joins);
       tables = λ keeps uncut. absurd (subst KeepsHolds joins keeps);
+      volume = λ leaves uncut. absurd (subst IsLeave joins leaves);
       fewer = nearer;
     }
 
@@ -165,6 +167,7 @@ module _ (v u w : WorldView) (h : ℕ) (watch after : List (Option Look)) (k : �
               });
           stands = nothing_watched w h;
           tables = λ keeps uncut. absurd (subst KeepsHolds joins keeps);
+          volume = λ leaves uncut. absurd (subst IsLeave joins leaves);
           fewer = calls_some v h doing going;
         })
 

@@ -120,6 +120,7 @@ over_more_came v w h watch stage next c stands others went = record {
     refl,
   );
   tables = λ keeps uncut. absurd keeps;
+  volume = λ leaves uncut. absurd leaves;
   fewer = subst (λ (g : Geometry). steps_left g next + 1 < steps_left v.locks.geometry stage + 1) (sym others.locks.lasts.geometry)
       (omega (arith, went.fewer));
 }
@@ -144,6 +145,7 @@ over_ready_came v w h watch stage dead c stands others went = record {
     refl,
   );
   tables = λ keeps uncut. absurd keeps;
+  volume = λ leaves uncut. absurd leaves;
   fewer = let some = some_left v h h stage stands.at in omega (arith, some);
 }
 
@@ -199,6 +201,7 @@ module _ (v : WorldView) (h : ℕ) (watch : List (Option Look)) (dead own : Key)
         (Agrees h v watch (Retake dead)) (Some dead.0) (λ n noted. noted);
     stands = nothing_watched w h;
     tables = λ keeps uncut. absurd keeps;
+    volume = λ leaves uncut. absurd leaves;
     fewer = omega arith;
   }
 

@@ -94,6 +94,7 @@ module _ (v w : WorldView) (h : ℕ) (watch : List (Option Look)) (again : Bool)
             (Agrees h v watch Enter) None (λ n noted. noted.under_way);
         stands = nothing_watched w h;
         tables = λ keeps uncut. absurd keeps;
+        volume = λ leaves uncut. absurd leaves;
         fewer = omega arith;
       }
       by_try true is at = record {
@@ -101,6 +102,7 @@ module _ (v w : WorldView) (h : ℕ) (watch : List (Option Look)) (again : Bool)
             (Agrees h v watch EnterAgain) None (λ n noted. noted.under_way);
         stands = nothing_watched w h;
         tables = λ keeps uncut. absurd keeps;
+        volume = λ leaves uncut. absurd leaves;
         fewer = omega arith;
       }
 

@@ -33,7 +33,8 @@ use Rattle.disk_locks.specs.Calls.{ClearsSlot, FreesSlot, IsFreed, slot_of}
 use Rattle.disk_locks.specs.Consistent.{Consistent}
 use Rattle.disk_locks.specs.Freeing.{IsUnneeded, MayFreeSlot}
 use Rattle.disk_locks.specs.Others as locks'
-use Rattle.disk_locks.specs.Sure.{Sure}
+use Rattle.call_effects.specs.Changes.{Changes}
+use Rattle.disk_locks.specs.Sure.{BothTold, Sure}
 use Rattle.watch.specs.declared.watch.Look.{Look}
 use Rattle.watch.specs.Looks.{nothing}
 use Rattle.host_facts.specs.Facts.Fact.{Given}
@@ -248,6 +249,7 @@ module _ (v w : WorldView) (h : ℕ) (watch : List (Option Look)) (c : Consisten
     };
     stands = (fence_stands, refl);
     tables = λ keeps uncut. absurd keeps;
+    volume = λ leaves uncut. has_left.passes.images;
     fewer = omega arith;
   }
 
@@ -320,6 +322,8 @@ module _ (v u w : WorldView) (h : ℕ) (watch : List (Option Look)) (own : Key) 
     };
     stands = nothing_watched w h;
     tables = λ keeps uncut. absurd keeps;
+    volume = λ leaves uncut. subst (λ (d : DiskSeen). BothTold (told_of v.locks) d.state.told (Changes v.locks.geometry [] None)) (sym gone.notes.disk)
+        has_fenced.passes.images;
     fewer = omega arith;
   }
 

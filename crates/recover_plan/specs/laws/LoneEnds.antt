@@ -52,6 +52,10 @@ use Rattle.recover_plan.specs.laws.FreeLaws as freed
 use Rattle.recover_plan.specs.laws.LoneLaws.{refused_by}
 use Rattle.recover_plan.specs.laws.RegisterLaws.{nothing_watched}
 use Rattle.recover_plan.specs.laws.StageLaws.{base_of}
+use Rattle.recover_plan.specs.LoneSteps.{HasKeyBehind}
+use Rattle.recover_plan.specs.Replays.{HasKey}
+use Rattle.recover_plan.specs.laws.StepLaws.{key_kept, locks_by, locks_same}
+use Rattle.lock_store.specs.declared.host.HostState.{HostState}
 
 -- at most so many steps are left behind a claim
 abbrev pub claims_left : Geometry → Bool → ℕ
@@ -74,11 +78,20 @@ module _ (v w : WorldView) (h of : ℕ) (again : Bool) (stage : Replay) (is : Is
   lone going went = record { base = base_of w h of going went.stands; ready = λ other. went.ready (is.lone.ready other) }
 
   -- a step made one call: no file changed, and the image is valid
-  stepped : (came : Came) (going : Going) → Went h of v w stage going → StandsBehind w h of (later_of came) (end_of came)
+  stepped : (came : Came) (going : Going) → Went h of v w stage going → (HasKey w h → HasKeyBehind w h (end_of came))
+      → StandsBehind w h of (later_of came) (end_of came)
       → lone_left w.locks.geometry (later_of came) < lone_left v.locks.geometry (on_by again stage) → LoneCame h of v w (on_by again stage) came
-  stepped came going went stands fewer =
-      let quiet = went.quiet (commands.Recover of) nothing 0 (inr refl) in
-      record { files = quiet.files; valid = quiet.valid; slots = went.slots; stands = stands; fewer = fewer }
+  stepped came going went behind stands fewer =
+      let quiet = went.quiet (commands.Recover of) nothing 0 (inr refl) in record {
+        files = quiet.files;
+        valid = quiet.valid;
+        slots = went.slots;
+        locks = went.locks;
+        registered = behind (went.registered is.sees);
+        faults = quiet.acts.later;
+        stands = stands;
+        fewer = fewer;
+      }
 
   end_nearer : 0 < lone_left v.locks.geometry (on_by again stage)
   end_nearer = rw (on_left v.locks.geometry again stage) (omega (arith, some))
@@ -92,7 +105,7 @@ module _ (v w : WorldView) (h of : ℕ) (again : Bool) (stage : Replay) (is : Is
 
   pub more_came : (next : Replay) → Went h of v w stage (goings.More next) → LoneCame h of v w (on_by again stage) (More (on_by again next))
   more_came next went =
-      stepped (More (on_by again next)) (goings.More next) went
+      stepped (More (on_by again next)) (goings.More next) went (λ here. here)
       (on_at w h of again next (record { lone = lone (goings.More next) went; stands = went.stands; sees = went.sees is.sees }))
       (rw (on_left w.locks.geometry again next, on_left v.locks.geometry again stage)
       (subst (λ (g : Geometry). steps_left g next + claims_left g again < steps_left v.locks.geometry stage + claims_left v.locks.geometry again)
@@ -100,7 +113,7 @@ module _ (v w : WorldView) (h of : ℕ) (again : Bool) (stage : Replay) (is : Is
 
   pub ready_came : (dead : Key) → Went h of v w stage (goings.Ready dead) → LoneCame h of v w (on_by again stage) (More (lones.Last dead))
   ready_came dead went =
-      stepped (More (lones.Last dead)) (goings.Ready dead) went (lone (goings.Ready dead) went, went.stands) last_near
+      stepped (More (lones.Last dead)) (goings.Ready dead) went (λ here. here) (lone (goings.Ready dead) went, went.stands) last_near
 
   -- a claim found another slot: the device tells nothing
   module _ (from found : Slot) (went : Went h of v w stage (goings.Found from found)) where
@@ -108,14 +121,14 @@ module _ (v w : WorldView) (h of : ℕ) (again : Bool) (stage : Replay) (is : Is
     untold = (went.sees is.sees).1
 
     busy : LoneCame h of v w (on_by again stage) (End (ends.Busy (has_key found)))
-    busy = stepped (End (ends.Busy (has_key found))) (goings.Found from found) went untold end_nearer
+    busy = stepped (End (ends.Busy (has_key found))) (goings.Found from found) went (λ here. here) untold end_nearer
 
     free_now : IsSlotFree w of
     free_now = subst (λ (o : Option Told). IfSome o (λ t. slot_state_at w.locks.geometry t.image of ≡ 0)) (sym untold) tt
 
     enters : (of ≡ h) → LoneCame h of v w (on_by again stage) (More lones.EnterAgain)
     enters own =
-        stepped (More lones.EnterAgain) (goings.Found from found) went (
+        stepped (More lones.EnterAgain) (goings.Found from found) went (λ here. here) (
           own,
           subst (λ y. IsEntering w y) own (record {
             base = subst (λ y. IsRecoverer w y of) (sym own) went.stands.base;
@@ -125,11 +138,11 @@ module _ (v w : WorldView) (h of : ℕ) (again : Bool) (stage : Replay) (is : Is
         ) last_near
 
     frees : (of ≢ h) → LoneCame h of v w (on_by again stage) (End ends.Free)
-    frees other = stepped (End ends.Free) (goings.Found from found) went ((lone (goings.Found from found) went).ready other, free_now) end_nearer
+    frees other = stepped (End ends.Free) (goings.Found from found) went (λ here. here) ((lone (goings.Found from found) went).ready other, free_now) end_nearer
 
     claims : again ≡ false → IsSameLive from found → LoneCame h of v w (on_by again stage) (More (lones.Again (Claim found)))
     claims first same =
-        stepped (More (lones.Again (Claim found))) (goings.Found from found) went (record {
+        stepped (More (lones.Again (Claim found))) (goings.Found from found) went (λ here. here) (record {
           lone = lone (goings.Found from found) went;
           stands = again_seen w h of from found went.stands same;
           sees = (went.sees is.sees).0;
@@ -165,7 +178,8 @@ module _ (v w : WorldView) (h of : ℕ) (again : Bool) (stage : Replay) (is : Is
 
   -- a refused step
   pub step_refused : (why : StepNo) → IsCutAt h of v w stage why → IsRefused h v w why
-  step_refused why cut = refused_by (commands.Recover of) h v w why _ (cut (commands.Recover of) nothing 0 (inr refl))
+  step_refused why cut =
+      refused_by (commands.Recover of) h v w why _ is.lone.base.key cut.shut (cut.cuts (commands.Recover of) nothing 0 (inr refl))
 
 -- a watch by which each host was seen three times
 pub thrice : List (Option Look)
@@ -189,7 +203,8 @@ module _ (v w : WorldView) (h of : ℕ) (dead : Key) (c : Consistent v.locks) (a
       → FreesSlot v.locks h of (Ok done) w.locks → IsFreed v.locks h of (Ok done) w.locks
       → LoneCame h of v w (lones.Last dead) (End ends.Recovered)
   freed_came done later others standing did is_freed =
-      let passes = (freed.has_freed v w h of dead.0 thrice c later recovers at.1 others standing done did is_freed).passes in record {
+      let has = freed.has_freed v w h of dead.0 thrice c later recovers at.1 others standing done did is_freed in
+      let passes = has.passes in record {
         files = passes.files;
         valid = valid_now w later;
         slots = elim did [
@@ -197,6 +212,12 @@ module _ (v w : WorldView) (h of : ℕ) (dead : Key) (c : Consistent v.locks) (a
               (λ y ne same. ne (let one : y ≡ of = cc in one)) cleared.acts.changes.1
           | inr found ↦ slots_same v w of (ap (λ (s : State). s.told) found.1.0.acts.changes.2)
         ];
+        locks = elim has.memory [
+          | inl free ↦ locks_by v w h (ap (λ (m : HostState). m.held) free) (ap (λ (m : HostState). m.reading) free)
+          | inr same ↦ locks_same v w h same.1
+        ];
+        registered = key_kept v w h passes.key has.keys has.registered;
+        faults = elim did [ inl cleared ↦ cleared.acts.later | inr found ↦ found.1.0.acts.later ];
         stands = (
           freed.free_ready v w h of dead.0 thrice c later recovers at.1 others standing done did is_freed,
           subst (λ (g : Geometry). OnImage w.locks.disk.state (λ image. slot_state_at g image of ≡ 0)) (sym passes.geometry)

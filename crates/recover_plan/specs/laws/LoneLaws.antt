@@ -57,14 +57,21 @@ use Rattle.recover_plan.specs.laws.RegisterLaws.{entering, nothing_watched}
 use Rattle.recover_plan.specs.laws.SlotEndings.{taken_key}
 use Rattle.recover_plan.specs.laws.StageLaws.{base_on}
 use Rattle.recover_plan.specs.laws.StepLaws.{locks_else, ready_key, ready_same, there_on, slots_same, slots_written}
+use Rattle.recover_plan.specs.Replays.{IsShut}
+use Rattle.recover_plan.specs.laws.StepLaws.{key_kept, key_looked, locks_by, locks_same}
+use Rattle.lock_store.specs.declared.answers.StepNo.TheVariants as steps
+use Rattle.shared_disk.specs.Calls.{after_register, next_key}
+use Rattle.std.specs.Prelude.{List, ◌++◌, ◌∷◌}
+use Rattle.std.proofs.lemmas.List.Elements.{Contains-append_right}
 
 -- what cuts a command refuses the step
-pub refused_by : (command : Command) (h : ℕ) (v w : WorldView) (why : StepNo) (Before : Notes → Type 0) → IsCutBy command h v w why Before
-    → IsRefused h v w why
-refused_by command h v w why Before (e, cut) = record {
+pub refused_by : (command : Command) (h : ℕ) (v w : WorldView) (why : StepNo) (Before : Notes → Type 0) → key_at v.locks h ≢ 0
+    → IsShut v h why → IsCutBy command h v w why Before → IsRefused h v w why
+refused_by command h v w why Before some shut (e, cut) = record {
   event = e;
   acts = cut.acts;
   cause = cut.cause;
+  shut = λ fenced. (some, shut fenced);
   state = cut.state;
   geometry = cut.geometry;
   memory = cut.memory;
@@ -75,6 +82,10 @@ refused_by command h v w why Before (e, cut) = record {
 pub free_there : (w : WorldView) (h of : ℕ) → Contains (keys_of w.locks) (key_at w.locks h) → IsThere w h of slots.Free → IsSlotFree w of
 free_there w h of here there =
     map_told (told_of w.locks) _ _ (there here) (λ t is. free_state w.locks.geometry t.image of is)
+
+-- a key that was given is registered
+given_key : (keys : List ℕ) (key : ℕ) → Contains (keys ++ key ∷ []) key
+given_key keys key = Contains-append_right keys (key ∷ []) key (0, omega arith, refl)
 
 -- a key was asked for
 module _ (v w : WorldView) (h of : ℕ) (c : Consistent v.locks) (later : Consistent w.locks) (others : locks'.Others h v.locks w.locks)
@@ -87,6 +98,13 @@ module _ (v w : WorldView) (h of : ℕ) (c : Consistent v.locks) (later : Consis
     files = both_same _ _ _ (ap (λ (s : State). s.told) did.acts.changes.1) (λ image f. refl);
     valid = valid_now w later;
     slots = slots_same v w of (ap (λ (s : State). s.told) did.acts.changes.1);
+    locks = locks_by v w h (ap (λ (m : HostState). m.held) did.mine ∙ ap (λ (m : HostState). m.held) (sym at.2))
+        (ap (λ (m : HostState). m.reading) did.mine ∙ ap (λ (m : HostState). m.reading) (sym at.2));
+    registered = subst (λ k. Contains (keys_of w.locks) k) (sym (ap key_of did.mine))
+        (subst (λ (s : State). Contains s.keys key.0) (sym did.acts.changes.1)
+        (subst (λ k. Contains (after_register h v.locks.disk.state).keys k) (sym did.acts.changes.0)
+        (given_key v.locks.disk.state.keys (next_key h v.locks.disk.state))));
+    faults = did.acts.later;
     stands = (at.0, entering v w h nothing key c later others standing did registers);
     fewer = subst (λ (g : Geometry). 2 * locks_of g + 42 < 2 * locks_of v.locks.geometry + 43) (sym did.geometry) (omega arith);
   }
@@ -97,16 +115,21 @@ module _ (v w : WorldView) (h of : ℕ) (c : Consistent v.locks) (later : Consis
         files = both_same _ _ _ (ap (λ (s : State). s.told) state) (λ image f. refl);
         valid = valid_now w later;
         slots = slots_same v w of (ap (λ (s : State). s.told) state);
+        locks = locks_same v w h did.mine;
+        registered = tt;
+        faults = did.acts.later;
         stands = (did.mine ∙ at.2, ap (λ (s : State). s.counter) state ∙ did.acts.no_keys.0 refl);
         fewer = omega arith;
       }
 
-  pub ask_refused : (cause_is : DiskNo) (why : StepNo) → IsCauseOf why (event (key_at v.locks h) (Registers h) (Refuses cause_is)) v
+  pub ask_refused : (cause_is : DiskNo) (why : StepNo) → why ≢ steps.Fenced
+      → IsCauseOf why (event (key_at v.locks h) (Registers h) (Refuses cause_is)) v
       → RegistersHost v.locks h (Err cause_is) w.locks → IsRefused h v w why
-  ask_refused cause_is why cause did = record {
+  ask_refused cause_is why other cause did = record {
     event = event (key_at v.locks h) (Registers h) (Refuses cause_is);
     acts = did.acts;
     cause = cause;
+    shut = λ fenced. absurd (other fenced);
     state = refused_same _ v.locks.disk w.locks.disk cause_is did.acts refl;
     geometry = did.geometry;
     memory = λ other. did.mine ∙ at.2;
@@ -118,17 +141,22 @@ pub entered_came : (v w : WorldView) (h of : ℕ) (from : Slot) (own : Key) (sta
     → locks'.Others h v.locks w.locks → w.standing ≡ v.standing → IsRecoverer v h h → IsSlot from → own.0 ≡ key_at v.locks h
     → (slot_key from ≢ 0 → Knows v h (DeadRecord h [])) → EntersSlot v.locks h from (Ok Claimed) w.locks
     → of ≡ h → 0 < lone_left v.locks.geometry stage → LoneCame h of v w stage (End (ends.Joined own))
-entered_came v w h of from own stage c later others standing base spelled is_key empty did own_is some = record {
-  files = (entries.has_joined v w h nothing from own c later others standing base spelled is_key empty did).passes.files;
-  valid = valid_now w later;
-  slots = subst (λ y. SlotsStay v w y) (sym own_is) (slots_written v w h (kinds.Slot h) _ base.below
-      (λ y ne same. ne (let one : y ≡ h = cc in one)) did.acts.changes.1);
-  stands = (
-    entries.joined_ready v w h nothing from own c later others standing base spelled is_key empty did,
-    is_key ∙ sym (ap key_of did.mine),
-  );
-  fewer = some;
-}
+entered_came v w h of from own stage c later others standing base spelled is_key empty did own_is some =
+    let joins = entries.has_joined v w h nothing from own c later others standing base spelled is_key empty did in record {
+      files = joins.passes.files;
+      valid = valid_now w later;
+      slots = subst (λ y. SlotsStay v w y) (sym own_is) (slots_written v w h (kinds.Slot h) _ base.below
+          (λ y ne same. ne (let one : y ≡ h = cc in one)) did.acts.changes.1);
+      locks = locks_by v w h (ap (λ (m : HostState). m.held) did.mine) (ap (λ (m : HostState). m.reading) did.mine);
+      registered = key_kept v w h (ap key_of did.mine) joins.keys joins.registered;
+      faults = did.acts.later;
+      stands = (
+        entries.joined_ready v w h nothing from own c later others standing base spelled is_key empty did,
+        is_key ∙ sym (ap key_of did.mine),
+        own_is,
+      );
+      fewer = some;
+    }
 
 -- a try of the own free slot found another one
 module _ (v u : WorldView) (h of : ℕ) (found : Slot) (c : Consistent v.locks) (later : Consistent u.locks)
@@ -154,13 +182,19 @@ module _ (v u : WorldView) (h of : ℕ) (found : Slot) (c : Consistent v.locks) 
           shown = is.shown;
           by = is.by;
         };
-        sees = there_on v u h h found seen.looks.geometry (ap key_of seen.looks.memory) seen.looks.registered
-            (ap (λ (s : State). s.told) seen.looks.state)
-            (stands_sure v.locks h (kinds.Slot h) (slot_bytes found) did.0.acts.changes.0);
+        sees = record {
+          there = there_on v u h h found seen.looks.geometry (ap key_of seen.looks.memory) seen.looks.registered
+              (ap (λ (s : State). s.told) seen.looks.state)
+              (stands_sure v.locks h (kinds.Slot h) (slot_bytes found) did.0.acts.changes.0);
+          other = λ own. is.may.0 own is.unclaimed;
+        };
       } in record {
         files = tries.still v u u h nothing nothing false found c later stands at.1.base.host others standing did did.0.acts.changes.2;
         valid = valid_now u later;
         slots = slots_same v u of (ap (λ (s : State). s.told) did.0.acts.changes.2);
+        locks = locks_same v u h seen.looks.memory;
+        registered = key_looked v u h seen.looks;
+        faults = did.0.acts.later;
         stands = subst (λ y. IsOnWay u h y (Fence found)) (sym at.0) on;
         fewer = subst (λ (g : Geometry). locks_of g + 21 + locks_of g + 20 < 2 * locks_of v.locks.geometry + 42) (sym did.0.geometry)
             (omega arith);
@@ -172,6 +206,9 @@ module _ (v u : WorldView) (h of : ℕ) (found : Slot) (c : Consistent v.locks) 
         files = both_same (told_of v.locks) (told_of u.locks) KeepsFiles told (λ image f. refl);
         valid = valid_now u later;
         slots = slots_same v u of told;
+        locks = locks_same v u h did.0.mine;
+        registered = key_kept v u h (ap key_of did.0.mine) (ap (λ (s : State). s.keys) did.0.acts.changes.2) did.0.acts.admitted;
+        faults = did.0.acts.later;
         stands = told ∙ at.2;
         fewer = omega arith;
       }
@@ -243,7 +280,7 @@ module _ (v : WorldView) (h of : ℕ) (c : Consistent v.locks) (at : LoneAt v h 
               shown = seen.shown;
               by = seen.by;
             };
-            sees = there;
+            sees = record { there = there; other = λ own. did.3 (own ∙ ap key_of looks.memory) unclaimed };
           }
 
       more : slot ≢ slots.Free → LoneCame h of v w lones.Find (More (lones.First (Fence slot)))
@@ -251,6 +288,9 @@ module _ (v : WorldView) (h of : ℕ) (c : Consistent v.locks) (at : LoneAt v h 
         files = both_same (told_of v.locks) (told_of w.locks) KeepsFiles (ap (λ (s : State). s.told) looks.state) (λ image f. refl);
         valid = valid_now w later;
         slots = slots_same v w of (ap (λ (s : State). s.told) looks.state);
+        locks = locks_same v w h looks.memory;
+        registered = key_looked v w h looks;
+        faults = did.0.acts.later;
         stands = on taken;
         fewer = subst (λ (g : Geometry). locks_of g + 21 + locks_of g + 20 < 2 * locks_of v.locks.geometry + 42) (sym looks.geometry)
             (omega arith);
@@ -264,6 +304,9 @@ module _ (v : WorldView) (h of : ℕ) (c : Consistent v.locks) (at : LoneAt v h 
             files = both_same (told_of v.locks) (told_of w.locks) KeepsFiles (ap (λ (s : State). s.told) looks.state) (λ image f. refl);
             valid = valid_now w later;
             slots = slots_same v w of (ap (λ (s : State). s.told) looks.state);
+            locks = locks_same v w h looks.memory;
+            registered = key_looked v w h looks;
+            faults = did.0.acts.later;
             stands = (ready, free_there w h of registered (subst (λ (s : Slot). IsThere w h of s) is there));
             fewer = omega arith;
           }
@@ -279,6 +322,9 @@ goes_came v w h of dead next end is = record {
   files = is.files;
   valid = is.valid;
   slots = is.slots;
+  locks = is.locks;
+  registered = is.registered;
+  faults = is.faults;
   stands = is.stands;
   fewer = let less = is.fewer in omega (arith, less);
 }

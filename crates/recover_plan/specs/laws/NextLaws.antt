@@ -12,6 +12,7 @@ use Rattle.host_facts.specs.Views.{WorldView}
 use Rattle.host_runs.specs.Notes.{Notes}
 use Rattle.plan_parts.specs.Cuts.{IsCutBy, cut_by}
 use Rattle.recover_plan.specs.CallsLeft.{calls_left}
+use Rattle.recover_plan.specs.KeptVolumes.{VolumeStays}
 use Rattle.recover_plan.specs.KnownTables.{TablesStay}
 use Rattle.recover_plan.specs.Nexts.{MayStop}
 use Rattle.recover_plan.specs.Plans.{Agrees, Came, PlanStands, StandsAt, command_of, later_of}
@@ -119,6 +120,7 @@ module _ (v : WorldView) (h : ℕ) (watch : List (Option Look)) (c : Consistent 
         (key_some doing stands.at (asks_no_key doing why by may is)) is (cut_says doing why stands.at may) cut;
     stands = nothing_watched w h;
     tables = λ keeps uncut. absurd (uncut by refl);
+    volume = λ leaves uncut. absurd (uncut by refl);
     fewer = calls_some v h doing (λ ended. subst (λ (d : Doing). StandsAt v h watch d) ended stands.at);
   }
 
@@ -141,5 +143,6 @@ has_stepped h v w watch after doing was later come step is step_is later_is came
       owes = subst (λ (s : Step). OwesStep (command_of was) h v w s (Agrees h v watch was) (Behind h w after come)) (sym step_is) now.owes;
       stands = now.stands;
       tables = subst (λ (s : Step). TablesStay h v w (command_of was) s) (sym step_is) now.tables;
+      volume = subst (λ (s : Step). VolumeStays v w (command_of was) s) (sym step_is) now.volume;
       fewer = subst (λ (d : Doing). calls_left w h d < calls_left v h was) (sym later_is) now.fewer;
     }

@@ -24,6 +24,7 @@ use Rattle.host_facts.specs.Facts.{locks_of}
 use Rattle.recover_plan.specs.CallsLeft.{calls_left}
 use Rattle.recover_plan.specs.laws.CallsLeftLaws.{claims_more, claims_some, recovery_left, some_left}
 use Rattle.recover_plan.specs.Stages.{steps_left}
+use Rattle.recover_plan.specs.KeptVolumes.{IsLeave}
 use Rattle.recover_plan.specs.Plans.{Agrees, Behind, Came, IsRecovering, PlanStands, command_of, step_of}
 use Rattle.recover_plan.specs.Recoveries.{FoundTo, IsSameLive, RecoverTo, claims_before, found_answer, recovery}
 use Rattle.recover_plan.specs.Recoveries.FoundTo.{Answers, ClaimsAgain}
@@ -126,6 +127,7 @@ module _ (v w : WorldView) (h of : ℕ) (watch : List (Option Look)) (again : Bo
       recovers_it of again next ∙ sym (recovers_it of again stage),
     );
     tables = λ keeps uncut. went.tables;
+    volume = λ leaves uncut. absurd (subst IsLeave (recovers_it of again stage) leaves);
     fewer = more_nearer next went.fewer;
   }
 
@@ -142,6 +144,7 @@ module _ (v w : WorldView) (h of : ℕ) (watch : List (Option Look)) (again : Bo
       sym (recovers_it of again stage),
     );
     tables = λ keeps uncut. went.tables;
+    volume = λ leaves uncut. absurd (subst IsLeave (recovers_it of again stage) leaves);
     fewer = ready_nearer;
   }
 
@@ -184,6 +187,7 @@ module _ (v w : WorldView) (h of : ℕ) (watch : List (Option Look)) (again : Bo
           sym (recovers_it of again stage),
         );
         tables = λ keeps uncut. went.tables;
+        volume = λ leaves uncut. absurd (subst IsLeave (recovers_it of again stage) leaves);
         fewer = again_nearer found first;
       }
 
@@ -198,6 +202,7 @@ module _ (v w : WorldView) (h of : ℕ) (watch : List (Option Look)) (again : Bo
         again refl other kept looked slots.Free is');
     stands = watched_found from found after went kept looked;
     tables = λ keeps uncut. went.tables;
+    volume = λ leaves uncut. absurd (subst IsLeave (recovers_it of again stage) leaves);
     fewer = answer_nearer;
   }
   answer_came from found after other kept looked went (slots.Live key beat) is' = record {
@@ -206,6 +211,7 @@ module _ (v w : WorldView) (h of : ℕ) (watch : List (Option Look)) (again : Bo
         again refl other kept looked (slots.Live key beat) is');
     stands = watched_found from found after went kept looked;
     tables = λ keeps uncut. went.tables;
+    volume = λ leaves uncut. absurd (subst IsLeave (recovers_it of again stage) leaves);
     fewer = answer_nearer;
   }
   answer_came from found after other kept looked went (slots.Recovering key by) is' = record {
@@ -214,6 +220,7 @@ module _ (v w : WorldView) (h of : ℕ) (watch : List (Option Look)) (again : Bo
         again refl other kept looked (slots.Recovering key by) is');
     stands = watched_found from found after went kept looked;
     tables = λ keeps uncut. went.tables;
+    volume = λ leaves uncut. absurd (subst IsLeave (recovers_it of again stage) leaves);
     fewer = answer_nearer;
   }
 
@@ -241,8 +248,8 @@ module _ (v w : WorldView) (h of : ℕ) (watch : List (Option Look)) (again : Bo
 -- a step that was refused
 pub recover_cut : (v w : WorldView) (h of : ℕ) (watch : List (Option Look)) (again : Bool) (stage : Replay) (why : StepNo)
     → IsCutAt h of v w stage why → IsCutBy (commands.Recover of) h v w why (Agrees h v watch (recovery of again stage))
-recover_cut v w h of watch false stage why cut = cut (commands.Recover of) watch 0 (inr refl)
-recover_cut v w h of watch true stage why cut = cut (commands.Recover of) watch 1 (inr refl)
+recover_cut v w h of watch false stage why cut = cut.cuts (commands.Recover of) watch 0 (inr refl)
+recover_cut v w h of watch true stage why cut = cut.cuts (commands.Recover of) watch 1 (inr refl)
 
 -- what the sub-plan asks
 pub recover_stands : (v : WorldView) (h of : ℕ) (watch : List (Option Look)) (again : Bool) (stage : Replay)

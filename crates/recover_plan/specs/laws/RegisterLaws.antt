@@ -154,6 +154,7 @@ module _ (v w : WorldView) (h : ℕ) (watch : List (Option Look)) (key : Key) (c
       refl,
     );
     tables = λ keeps uncut. absurd keeps;
+    volume = λ leaves uncut. absurd leaves;
     fewer = subst (λ (g : Geometry). locks_of g + 23 < locks_of v.locks.geometry + 24) (sym did.geometry) (omega arith);
   }
 
@@ -202,6 +203,7 @@ no_keys_came v w h watch c later others standing did stands = record {
   };
   stands = nothing_watched w h;
   tables = λ keeps uncut. absurd keeps;
+  volume = λ leaves uncut. absurd leaves;
   fewer = omega arith;
 }
 
@@ -243,6 +245,7 @@ register_failed_came v w h watch c later others standing did stands = record {
   };
   stands = nothing_watched w h;
   tables = λ keeps uncut. absurd keeps;
+  volume = λ leaves uncut. absurd leaves;
   fewer = omega arith;
 }
 

@@ -74,6 +74,8 @@ use Rattle.recover_plan.specs.laws.KnownTableLaws.{tables_replayed}
 use Rattle.recover_plan.specs.laws.NoteLaws.{IsOf, claimed_noting, claimed_sees}
 use Rattle.recover_plan.specs.laws.StepLaws.{slots_same, slots_written}
 use Rattle.recover_plan.specs.laws.StageLaws.{claim_on, ready_on, ready_still, replaying_on}
+use Rattle.lock_store.specs.Calls.{AnyBlock}
+use Rattle.recover_plan.specs.laws.StepLaws.{key_kept, key_looked, locks_same, shut_out}
 
 module _ (v w : WorldView) (h of : ℕ) (dead : Key) (is : Consistent v.locks) (others : Others h v w) where
   -- a read and a write test nothing
@@ -141,6 +143,8 @@ module _ (v w : WorldView) (h of : ℕ) (dead : Key) (is : Consistent v.locks) (
         tables = λ t p. looks.facts (TableIs t p);
         slots = slots_same v w of (ap (λ (s : State). s.told) looks.state);
         sees = λ there. claimed_sees w h of dead.0 (goings.More (behind_journal dead entry)) (of_dead entry);
+        registered = λ there. key_looked v w h looks;
+        locks = locks_same v w h looks.memory;
         ready = ready_still v w h of looks.geometry looks.memory looks.facts;
         quiet = λ command watch k recovers.
             read_quiet command watch k (stages.Journal dead) (goings.More (behind_journal dead entry)) (kinds.Journal of)
@@ -196,6 +200,8 @@ module _ (v w : WorldView) (h of : ℕ) (dead : Key) (is : Consistent v.locks) (
         tables = λ t p. looks.facts (TableIs t p);
         slots = slots_same v w of (ap (λ (s : State). s.told) looks.state);
         sees = λ there. tt;
+        registered = λ there. key_looked v w h looks;
+        locks = locks_same v w h looks.memory;
         ready = ready_still v w h of looks.geometry looks.memory looks.facts;
         quiet = λ command watch n recovers.
             read_quiet command watch n (stages.Read dead entry k) (goings.More (stages.Write dead entry k (made which entry.edits table)))
@@ -334,6 +340,8 @@ module _ (v w : WorldView) (h of : ℕ) (dead : Key) (is : Consistent v.locks) (
         tables = tables;
         slots = slots_written v w of (kinds.Table which) (packed_bytes 4 kept) has (λ y ne is. cc) did.acts.changes;
         sees = λ there. claimed_sees w h of dead.0 (goings.More s) of_dead;
+        registered = λ there. key_kept v w h (ap key_of wrote.memory) wrote.keys wrote.registered;
+        locks = locks_same v w h wrote.memory;
         ready = record_still (kinds.Table which) (packed_bytes 4 kept) (λ e. cc) wrote;
         quiet = λ command watch n recovers.
             written_quiet command watch n (stages.Write dead entry k kept) (goings.More s) (kinds.Table which) (packed_bytes 4 kept) refl
@@ -361,6 +369,8 @@ module _ (v w : WorldView) (h of : ℕ) (dead : Key) (is : Consistent v.locks) (
     tables = λ t p. wrote.facts (TableIs t p) (λ e. cc);
     slots = slots_written v w of (kinds.Journal of) (journal_bytes 0 []) all.claimed.base.below (λ y ne is. cc) did.acts.changes;
     sees = λ there. tt;
+    registered = λ there. key_kept v w h (ap key_of wrote.memory) wrote.keys wrote.registered;
+    locks = locks_same v w h wrote.memory;
     ready = λ was. record_still (kinds.Journal of) (journal_bytes 0 [])
         (λ same. let own : h ≡ of = cc in true≢false (sym was.joined ∙ (all.claimed.base.apart (sym own)).0)) wrote was;
     quiet = λ command watch n recovers.
@@ -374,17 +384,27 @@ module _ (v w : WorldView) (h of : ℕ) (dead : Key) (is : Consistent v.locks) (
   -- a refused step cuts the command
   pub journal_cut : (why : StepNo) → ReadsJournal v.locks h of (Err why) w.locks → IsSound {T = Option JournalRecord} (Err why) v.locks
       → IsCutAt h of v w (stages.Journal dead) why
-  journal_cut why refused sound command watch k recovers =
-      cut_weaker command v w h why _
-      (cut_read v w h (kinds.Journal of) (FitsJournal v.locks.geometry) why others refused (λ at bad. sound at (ap Err bad)) command)
+  journal_cut why refused sound = record {
+    cuts = λ command watch k recovers.
+        cut_weaker command v w h why _
+        (cut_read v w h (kinds.Journal of) (FitsJournal v.locks.geometry) why others refused (λ at bad. sound at (ap Err bad)) command);
+    shut = shut_out v w h (read_of v.locks (kinds.Journal of)) (place_of v.locks.geometry (kinds.Journal of)) (FitsJournal v.locks.geometry)
+        why refused;
+  }
 
   pub read_cut : (stage : Replay) (which : Table) (why : StepNo) → ReadsTable v.locks h which (Err why) w.locks
       → IsSound {T = Packing} (Err why) v.locks → IsCutAt h of v w stage why
-  read_cut stage which why refused sound command watch k recovers =
-      cut_weaker command v w h why _
-      (cut_read v w h (kinds.Table which) (FitsTable v.locks.geometry which) why others refused (λ at bad. sound at (ap Err bad)) command)
+  read_cut stage which why refused sound = record {
+    cuts = λ command watch k recovers.
+        cut_weaker command v w h why _
+        (cut_read v w h (kinds.Table which) (FitsTable v.locks.geometry which) why others refused (λ at bad. sound at (ap Err bad)) command);
+    shut = shut_out v w h (read_of v.locks (kinds.Table which)) (place_of v.locks.geometry (kinds.Table which))
+        (FitsTable v.locks.geometry which) why refused;
+  }
 
   pub written_cut : (stage : Replay) (kind : Kind) (block : List ℕ) (why : StepNo) → IsWritable v.locks.geometry kind
       → WritesBlock v.locks h kind block (host_at v.locks h) (Err why) w.locks → IsCutAt h of v w stage why
-  written_cut stage kind block why writable refused command watch k recovers =
-      cut_weaker command v w h why _ (cut_write v w h kind block why writable others refused command)
+  written_cut stage kind block why writable refused = record {
+    cuts = λ command watch k recovers. cut_weaker command v w h why _ (cut_write v w h kind block why writable others refused command);
+    shut = shut_out v w h (Writes (place_of v.locks.geometry kind) block) (place_of v.locks.geometry kind) AnyBlock why refused;
+  }

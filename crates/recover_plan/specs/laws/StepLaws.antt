@@ -57,6 +57,16 @@ use Rattle.vol_layout.specs.Places.{place_of}
 use Rattle.vol_layout.specs.Ranges.{HasKind}
 use Rattle.vol_layout.specs.declared.kind.Kind.{Kind}
 use Rattle.recover_plan.specs.SlotTurns.{IsOnSlot, SlotTurn}
+use Rattle.recover_plan.specs.Replays.{HasKey, IsShut, KeepsLocks}
+use Rattle.host_facts.specs.Looks.{Looks}
+use Rattle.lock_store.specs.Events.{IsRefusal}
+use Rattle.lock_store.specs.Memories.{index_of, key_of, reads}
+use Rattle.std.specs.Prelude.{Bool, slice_index_or}
+use Rattle.vol_layout.specs.declared.kind.Resource.TheVariants.{File, Group, Part}
+use Rattle.lock_store.specs.Views.{keys_of}
+use Rattle.shared_disk.specs.Events.{Fences, IsShutOut, Reads, Registers, Tests, Writes}
+use Rattle.shared_disk.specs.State.{State}
+use Rattle.lock_store.specs.declared.answers.StepNo.TheVariants as steps
 
 -- a world whose locks alone changed
 pub locks_else : (v w : WorldView) → w.standing ≡ v.standing → with_locks v w.locks ≡ w
@@ -237,3 +247,41 @@ slots_written v w of kind block has apart wrote =
     (both_written v.locks.disk.state w.locks.disk.state (place_of g kind) block wrote)
     (λ i j now y below ne.
     rw now (write_only g i kind block has (kinds.Slot y) below (apart y ne)))
+
+reading_same : (m n : HostState) (r : Resource) → n.reading ≡ m.reading → reads n r ≡ reads m r
+reading_same m n (File f) same = ap (λ (files : List Bool). slice_index_or files f false) same
+reading_same m n (Part p) same = refl
+reading_same m n (Group q) same = refl
+
+-- a host that has its locks in memory as before holds and reads what it did
+pub locks_by : (v w : WorldView) (h : ℕ) → (host_at w.locks h).held ≡ (host_at v.locks h).held
+    → (host_at w.locks h).reading ≡ (host_at v.locks h).reading → KeepsLocks h v w
+locks_by v w h held read = record {
+  held = λ r. ap (λ (all : List Bool). slice_index_or all (index_of r) false) held;
+  read = λ r. reading_same (host_at v.locks h) (host_at w.locks h) r read;
+}
+
+pub locks_same : (v w : WorldView) (h : ℕ) → host_at w.locks h ≡ host_at v.locks h → KeepsLocks h v w
+locks_same v w h same = locks_by v w h (ap (λ (m : HostState). m.held) same) (ap (λ (m : HostState). m.reading) same)
+
+-- its key is registered still, where no key was taken off
+pub key_kept : (v w : WorldView) (h : ℕ) → key_at w.locks h ≡ key_at v.locks h → keys_of w.locks ≡ keys_of v.locks → HasKey v h → HasKey w h
+key_kept v w h key keys here =
+    subst (λ k. Contains (keys_of w.locks) k) (sym key) (subst (λ (ks : List ℕ). Contains ks (key_at v.locks h)) (sym keys) here)
+
+pub key_looked : (v w : WorldView) (h : ℕ) → Looks h v w → HasKey w h
+key_looked v w h looks =
+    key_kept v w h (ap key_of looks.memory) (ap (λ (s : State). s.keys) looks.state) looks.registered
+
+-- a call under a registered key is not shut out
+not_shut : (k : ℕ) (call : Call) (s : State) → Contains s.keys k → IsShutOut k call s → ⊥
+not_shut k (Reads place) s here shut = shut here
+not_shut k (Writes place block) s here shut = shut here
+not_shut k (Tests place old new) s here shut = shut here
+not_shut k (Registers of) s here shut = shut
+not_shut k (Fences target) s here shut = shut here
+
+pub shut_out : (v w : WorldView) (h : ℕ) (call : Call) (place : ℕ) (Fits : List ℕ → Type 0) (why : StepNo)
+    → IsRefusal v.locks h call place Fits why w.locks → IsShut v h why
+shut_out v w h call place Fits steps.Fenced refused is here = not_shut (key_at v.locks h) call v.locks.disk.state here (refused.acts.fenced.0 refl)
+shut_out v w h call place Fits why refused is here = cc

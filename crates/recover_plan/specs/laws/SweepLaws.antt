@@ -66,6 +66,7 @@ use Rattle.recover_plan.specs.laws.StepLaws.{locks_else, slots_same, slots_writt
 use Rattle.recover_plan.specs.laws.NoteLaws.{IsOf, claimed_noting, frees, no_try, claimed_sees}
 use Rattle.recover_plan.specs.laws.ClaimLaws.{claimed_some, claims_slot}
 use Rattle.recover_plan.specs.laws.StageLaws.{ready_still, swept_on}
+use Rattle.recover_plan.specs.laws.StepLaws.{key_kept, locks_same, shut_out}
 
 -- no standing record edits what the dead key holds, once its own journal is empty
 pub swept_unedited : (v : WorldView) (h of dead k : ℕ) (r : Resource) → Consistent v.locks → IsSwept v h of dead k
@@ -193,6 +194,8 @@ module _ (v w : WorldView) (h of : ℕ) (dead : Key) (k : ℕ) (r : Resource) (i
           tables = λ t p. cleared.facts (TableIs t p);
           slots = slots;
           sees = λ there. claimed_sees w h of dead.0 going of_dead;
+          registered = λ there. key_kept v w h (ap key_of cleared.memory) cleared.keys cleared.registered;
+          locks = locks_same v w h cleared.memory;
           ready = ready_still v w h of cleared.passes.geometry cleared.memory cleared.facts;
           quiet = λ command watch n recovers.
               quiet_call command v w h (clear_call v.locks dead.0 r) reply (host_at v.locks h) _ _ call given others (valid_now w later)
@@ -226,7 +229,11 @@ module _ (v w : WorldView) (h of : ℕ) (dead : Key) (k : ℕ) (r : Resource) (i
   -- a refused step cuts the command
   pub sweep_cut : (why : StepNo) → FreesLock v.locks h dead.0 r (Err why) w.locks → IsSound {T = Unit} (Err why) v.locks
       → IsCutAt h of v w (stages.Sweep dead k) why
-  sweep_cut why refused sound command watch n recovers =
-      cut_of command v w h (clear_call v.locks dead.0 r) (place_of v.locks.geometry (kinds.Lock r)) refl others _
-      (λ reply. clear_right command recovers reply _) (FitsLock Clear (trier h (host_at v.locks h) r)) why refused
-      (λ at bad. sound at (ap Err bad))
+  sweep_cut why refused sound = record {
+    cuts = λ command watch n recovers.
+        cut_of command v w h (clear_call v.locks dead.0 r) (place_of v.locks.geometry (kinds.Lock r)) refl others _
+        (λ reply. clear_right command recovers reply _) (FitsLock Clear (trier h (host_at v.locks h) r)) why refused
+        (λ at bad. sound at (ap Err bad));
+    shut = shut_out v w h (clear_call v.locks dead.0 r) (place_of v.locks.geometry (kinds.Lock r))
+        (FitsLock Clear (trier h (host_at v.locks h) r)) why refused;
+  }

@@ -140,5 +140,6 @@ module _ (v w : WorldView) (h f : ℕ) (watch : List (Option Look)) (c : Consist
         refl,
       );
       tables = λ keeps uncut. absurd keeps;
+      volume = λ leaves uncut. relocks.passes.images;
       fewer = omega (arith, fewer_files);
     }

@@ -57,6 +57,8 @@ use Rattle.share_plans.specs.laws.EndLaws.{places_kept, same_share}
 use Rattle.share_plans.specs.laws.KnownLaws.{found_kept}
 use Rattle.share_plans.specs.laws.LinkLaws.{Seen, count_has, count_range, files_stay, from_group, link_made, right_record, seen_sure}
 use Rattle.share_plans.specs.laws.LinkRecordLaws.{Names, link_order, link_range, named_in, one_group, two_groups}
+use Rattle.plan_parts.specs.MadeCalls.{CommittedSo, writing_of}
+use Rattle.share_plans.specs.laws.SpareLaws.{spares_place}
 
 -- the record, by the volume
 pub entry_by : (core : Core) (pair : Pair) (group : Kept) (other : Option Kept) (x g : Geometry) (key : ℕ) (entry : JournalRecord) → x ≡ g
@@ -259,9 +261,10 @@ module _ (v : WorldView) (core : Core) (pair : Pair) (group : Kept) (other : Opt
   -- the record was written
   pub link_committed : (w : WorldView) (key : ℕ) (entry : JournalRecord) (left : List Kept) (a : Applying)
       → entry ≡ record { key = key; edits = es }
-      → AreLinkTables core pair group other left → Committed core.host v w entry left → a.entry ≡ entry → a.left ≡ left
+      → AreLinkTables core pair group other left → Committed core.host v w entry left → CommittedSo core.host v w entry
+      → a.entry ≡ entry → a.left ≡ left
       → Went v w core core (stages.Commits pair group other) (More (stages.Closes (Applies a) answers.Linked))
-  link_committed w key entry left a entry_is are did a_entry a_left =
+  link_committed w key entry left a entry_is are did so a_entry a_left =
       let h = core.host in
       let edits_is : entry.edits ≡ es = ap (λ (r : JournalRecord). r.edits) entry_is in
       let keeps = keeps_memory h v w did.wrote.geometry did.wrote.memory in
@@ -273,7 +276,7 @@ module _ (v : WorldView) (core : Core) (pair : Pair) (group : Kept) (other : Opt
       (λ old new seen step.
       let changes = subst (λ (fs : List Edit). Changes g fs None old new) edits_is step.changes in (
         files_stay v core pair group other is at old seen new changes,
-        (seen.are.have, link_made v core pair group other is at old seen new changes),
+        (seen.are.have, link_made v core pair group other is at old seen new changes, changes.blocks),
       )) in
       let files : FilesStay v w = both_of (told_of v.locks) (told_of w.locks) Done KeepsFiles done (λ old new both. both.0) in
       let few = (link_tables left are).2 in
@@ -296,6 +299,7 @@ module _ (v : WorldView) (core : Core) (pair : Pair) (group : Kept) (other : Opt
           tt,
         );
         less = omega (arith, few, long, taken);
-        event = did.event;
-        quiet = λ command may. did.quiet files command outcomes.Open;
+        event = writing_of v h (kinds.Journal h) (journal_bytes entry.key entry.edits);
+        spares = spares_place g (kinds.Journal h) at.0.base.places.is_host.host refl;
+        quiet = λ command may. so files command outcomes.Open;
       }

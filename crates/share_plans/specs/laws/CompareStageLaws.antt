@@ -52,6 +52,10 @@ use Rattle.share_plans.specs.laws.KnownLaws.{once, place_shown, pointer_names, t
 use Rattle.share_plans.specs.laws.LookStageLaws.{quiet_fetched}
 use Rattle.share_plans.specs.laws.StepLaws.{looked_ended, looked_keeps, looked_nothing, went_on}
 use Rattle.share_plans.specs.laws.StillLaws.{comparing_on, equal_on, group_kept, still_looks}
+use Rattle.share_plans.specs.HintSpares.{SparesHints}
+use Rattle.share_plans.specs.laws.StepLaws.{same_image}
+use Rattle.plan_parts.specs.MadeCalls.{ReadSo, reading_of}
+use Rattle.share_plans.specs.laws.LookStageLaws.{spares_fetched}
 
 -- the data block that a pointer names may be read, and so may that of the source
 module _ (v : WorldView) (h : ℕ) (left : List Kept) (is : Consistent v.locks) (are : AreKept v h left) (empty : Knows v h (RecordIs [])) where
@@ -120,31 +124,31 @@ module _ (v w : WorldView) (core : Core) (pair : Pair) (looks : Looks core.host 
       (taking_same v w core.host core.taken looks.geometry looks.memory at.base.taking) at
 
   goes : (stage after : Stage) → answer_at stage ≡ None → answer_at after ≡ None → At w core after → left core after < left core stage
-      → (e : Event) → Quiet core.host v w e → Went v w core core stage (More after)
-  goes stage after fresh none stands less e quiet =
+      → (e : Event) → SparesHints v.locks.geometry e.call → Quiet core.host v w e → Went v w core core stage (More after)
+  goes stage after fresh none stands less e spares quiet =
       went_on v w core core stage after fresh none (same_share core core.taken) (looked_keeps core.host v w looks) stands
-      (looked_nothing core.host v w looks) less e (λ command may. quiet command outcomes.Open)
+      (looked_nothing core.host v w looks) less e spares (λ command may. quiet command outcomes.Open)
 
   -- the source's data block was read
-  pub source_read : (block : Block) (e : Event) → Quiet core.host v w e → At v core (stages.ReadsSource pair)
+  pub source_read : (block : Block) (e : Event) → SparesHints v.locks.geometry e.call → Quiet core.host v w e → At v core (stages.ReadsSource pair)
       → Knows w core.host (BlockIs (field_of core.source) pair.source block.0)
       → Went v w core core (stages.ReadsSource pair) (More (stages.ReadsOwn pair block))
-  source_read block e quiet at known =
-      goes (stages.ReadsSource pair) (stages.ReadsOwn pair block) refl refl (comparing_looked at.0, known) (omega arith) e quiet
+  source_read block e spares quiet at known =
+      goes (stages.ReadsSource pair) (stages.ReadsOwn pair block) refl refl (comparing_looked at.0, known) (omega arith) e spares quiet
 
   -- the place's data block was read
-  pub own_read : (source block : Block) (apart : Option ℕ) (e : Event) → Consistent w.locks → Quiet core.host v w e
-      → At v core (stages.ReadsOwn pair source) → Knows w core.host (BlockIs (Pointer core.file core.index) pair.own block.0)
+  pub own_read : (source block : Block) (apart : Option ℕ) (e : Event) → Consistent w.locks → SparesHints v.locks.geometry e.call
+      → Quiet core.host v w e → At v core (stages.ReadsOwn pair source) → Knows w core.host (BlockIs (Pointer core.file core.index) pair.own block.0)
       → IfSome apart (IsApartAt block.0 source.0) → (IsNone apart → block.0 ≡ source.0)
       → Went v w core core (stages.ReadsOwn pair source) (behind_compare core.taken pair apart)
-  own_read source block None e later quiet at known differ same =
+  own_read source block None e later spares quiet at known differ same =
       let from = looks.facts (BlockIs (field_of core.source) pair.source source.0) at.1 in
       goes (stages.ReadsOwn pair source) (stages.CountsOwn pair) refl refl (
         comparing_looked at.0,
         (source.0, subst (λ (bytes : List ℕ). Knows w core.host (BlockIs (Pointer core.file core.index) pair.own bytes)) (same refl) known, from),
       )
-      (omega arith) e quiet
-  own_read source block (Some place) e later quiet at known differ same =
+      (omega arith) e spares quiet
+  own_read source block (Some place) e later spares quiet at known differ same =
       let now = comparing_looked at.0 in
       let from = looks.facts (BlockIs (field_of core.source) pair.source source.0) at.1 in
       looked_ended v w core core (stages.ReadsOwn pair source) (answers.Differs place) tt refl (same_share core core.taken) looks now.base.places
@@ -156,28 +160,28 @@ module _ (v w : WorldView) (core : Core) (pair : Pair) (looks : Looks core.host 
           subst (λ (xs : List ℕ). IsApartAt xs (block_at w.locks.geometry image (kinds.Number pair.source)) place) (sym are.own_is)
               (subst (λ (ys : List ℕ). IsApartAt block.0 ys place) (sym are.from_is) differ),
         ),
-        λ x there. refl,
+        same_image w.locks.geometry image,
       ))
-      (let few = at.0.locked.few in omega (arith, few)) e (λ command may. quiet command outcomes.Open)
+      (let few = at.0.locked.few in omega (arith, few)) e spares (λ command may. quiet command outcomes.Open)
 
 -- the counts of a group were read
 module _ (v w : WorldView) (core : Core) (pair : Pair) (kept : Kept) where
-  counts_go : (stage after : Stage) (t : Table) → (did : Fetched core.host v w t kept) → answer_at stage ≡ None → answer_at after ≡ None
+  counts_go : (stage after : Stage) (t : Table) → (did : Fetched core.host v w t kept) → ReadSo core.host v w kept → answer_at stage ≡ None → answer_at after ≡ None
       → At w core after → left core after < left core stage → Went v w core core stage (More after)
-  counts_go stage after t did fresh none stands less =
+  counts_go stage after t did so fresh none stands less =
       went_on v w core core stage after fresh none (same_share core core.taken) (looked_keeps core.host v w did.looks) stands
-      (looked_nothing core.host v w did.looks) less did.event
-      (λ command may. quiet_fetched core.host v w t kept did command outcomes.Open may)
+      (looked_nothing core.host v w did.looks) less (reading_of v core.host kept)
+      (spares_fetched core.host v w t kept did) (λ command may. quiet_fetched core.host v w kept so command outcomes.Open may)
 
-  pub own_counted : At v core (stages.CountsOwn pair) → Fetched core.host v w (table_of (Count pair.own)) kept
+  pub own_counted : At v core (stages.CountsOwn pair) → Fetched core.host v w (table_of (Count pair.own)) kept → ReadSo core.host v w kept
       → Went v w core core (stages.CountsOwn pair) (behind_counts pair kept)
-  own_counted at did = pick (pair.own / per_table == pair.source / per_table) refl
+  own_counted at did so = pick (pair.own / per_table == pair.source / per_table) refl
     where
       pick : (b : Bool) → (pair.own / per_table == pair.source / per_table) ≡ b
           → Went v w core core (stages.CountsOwn pair)
           (if b then More (stages.Commits pair kept None) else More (stages.CountsSource pair kept))
       pick true same =
-          counts_go (stages.CountsOwn pair) (stages.Commits pair kept None) (table_of (Count pair.own)) did refl refl (
+          counts_go (stages.CountsOwn pair) (stages.Commits pair kept None) (table_of (Count pair.own)) did so refl refl (
             comparing_looked v w core pair did.looks at.0,
             equal_on v w core (still_looks core.host v w did.looks) pair at.1,
             (did.is_kept, did.which),
@@ -185,7 +189,7 @@ module _ (v w : WorldView) (core : Core) (pair : Pair) (kept : Kept) where
           )
           (omega arith)
       pick false other =
-          counts_go (stages.CountsOwn pair) (stages.CountsSource pair kept) (table_of (Count pair.own)) did refl refl (
+          counts_go (stages.CountsOwn pair) (stages.CountsSource pair kept) (table_of (Count pair.own)) did so refl refl (
             comparing_looked v w core pair did.looks at.0,
             equal_on v w core (still_looks core.host v w did.looks) pair at.1,
             (did.is_kept, did.which),
@@ -194,9 +198,9 @@ module _ (v w : WorldView) (core : Core) (pair : Pair) (kept : Kept) where
           (omega arith)
 
   pub source_counted : (group : Kept) → At v core (stages.CountsSource pair group) → Fetched core.host v w (table_of (Count pair.source)) kept
-      → Went v w core core (stages.CountsSource pair group) (More (stages.Commits pair group (Some kept)))
-  source_counted group at did =
-      counts_go (stages.CountsSource pair group) (stages.Commits pair group (Some kept)) (table_of (Count pair.source)) did refl refl (
+      → ReadSo core.host v w kept → Went v w core core (stages.CountsSource pair group) (More (stages.Commits pair group (Some kept)))
+  source_counted group at did so =
+      counts_go (stages.CountsSource pair group) (stages.Commits pair group (Some kept)) (table_of (Count pair.source)) did so refl refl (
         comparing_looked v w core pair did.looks at.0,
         equal_on v w core (still_looks core.host v w did.looks) pair at.1,
         group_kept core.host v w (still_looks core.host v w did.looks) pair.own group at.2,

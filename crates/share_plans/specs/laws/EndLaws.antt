@@ -50,6 +50,7 @@ closes_went v w core after closing answer None at did = record {
   answers_are = (refl, did.changes);
   less = did.less;
   event = did.event;
+  spares = did.spares;
   quiet = λ command may. did.quiet command (outcome_by (Some answer));
 }
 closes_went v w core after closing answer (Some next) at did = record {
@@ -59,5 +60,6 @@ closes_went v w core after closing answer (Some next) at did = record {
   answers_are = (refl, did.changes);
   less = did.less;
   event = did.event;
+  spares = did.spares;
   quiet = λ command may. did.quiet command (outcome_by (Some answer));
 }

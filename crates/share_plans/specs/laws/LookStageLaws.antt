@@ -39,8 +39,12 @@ use Rattle.share_plans.specs.declared.stage.Pair.{Pair}
 use Rattle.share_plans.specs.declared.stage.Stage.{Stage}
 use Rattle.share_plans.specs.declared.stage.Stage.TheVariants as stages
 use Rattle.share_plans.specs.laws.KnownLaws.{are_packed, known_more, known_now, kept_more, own_table, place_shown, tables_read}
-use Rattle.share_plans.specs.laws.StepLaws.{IsPlain, looked_ended, looked_keeps, looked_nothing, went_on}
+use Rattle.share_plans.specs.laws.SpareLaws.{spares_read}
+use Rattle.share_plans.specs.laws.StepLaws.{IsPlain, looked_ended, looked_keeps, looked_nothing, same_image, went_on}
 use Rattle.share_plans.specs.laws.StillLaws.{all_kept, places_on, still_looks}
+use Rattle.plan_parts.specs.MadeCalls.{ReadSo, reading_of}
+use Rattle.vol_layout.specs.Ranges.{HasTable}
+use Rattle.share_plans.specs.HintSpares.{SparesHints}
 
 -- the share with other tables
 abbrev pub with_tables : Core → List Kept → Core
@@ -48,9 +52,14 @@ with_tables core more =
     record { host = core.host; file = core.file; index = core.index; source = core.source; taken = core.taken; tables = more }
 
 -- a read of a table is quiet for the command of a share
-pub quiet_fetched : (h : ℕ) (v w : WorldView) (t : Table) (kept : Kept) (got : Fetched h v w t kept) (command : Command) (outcome : Outcome)
-    → MayShare command → QuietCall command h v w got.event (Noted command h v outcome) (Noted command h w outcome)
-quiet_fetched h v w t kept got command outcome may = got.quiet command outcome (λ f i n r write. absurd (may.1 f i n write))
+pub quiet_fetched : (h : ℕ) (v w : WorldView) (kept : Kept) → ReadSo h v w kept → (command : Command) (outcome : Outcome)
+    → MayShare command → QuietCall command h v w (reading_of v h kept) (Noted command h v outcome) (Noted command h w outcome)
+quiet_fetched h v w kept so command outcome may = so command outcome (λ f i n r write. absurd (may.1 f i n write))
+
+pub spares_fetched : (h : ℕ) (v w : WorldView) (t : Table) (kept : Kept) → Fetched h v w t kept
+    → SparesHints v.locks.geometry (reading_of v h kept).call
+spares_fetched h v w t kept did =
+    spares_read v h kept (subst (λ (g : Geometry). HasTable g kept.which) did.looks.geometry did.is_kept.table)
 
 -- fewer tables are missing once one was read
 module _ (kept : Kept) (old new : List Kept) (inserted : IsInserted kept old new) where
@@ -126,15 +135,15 @@ answer_by : (g : Geometry) (known : Known) (core : Core) (t : Table) (source : P
     → IsAnswerBy g known core.file core.index source answer → (image : Image) → Reads g known image
     → ((f i d : ℕ) → IsShown g known f i d → shown_at g image f i ≡ Some d)
     → IsCause g core (stages.Reads t) answer image image
-answer_by g known core t source answers.Hole same is image reads shows = (is image reads, λ x has. refl)
+answer_by g known core t source answers.Hole same is image reads shows = (is image reads, same_image g image)
 answer_by g known core t (File f i) answers.NoSource same is image reads shows = (
   subst (λ (s : Place). HasNoSource g image core s (stages.Reads t)) (sym same)
       ((is.0, shows core.file core.index is.0 is.1), is.2 image reads),
-  λ x has. refl,
+  same_image g image,
 )
 answer_by g known core t (File f i) answers.Already same is image reads shows = (
   (is.0, shows core.file core.index is.0 is.1, subst (λ (s : Place). HasBlock g image s is.0) (sym same) (shows f i is.0 is.2)),
-  λ x has. refl,
+  same_image g image,
 )
 answer_by g known core t (File f i) answers.Linked same is image reads shows = absurd is
 answer_by g known core t (File f i) (answers.Differs at) same is image reads shows = absurd is
@@ -160,7 +169,7 @@ no_key g known f i (Arena s) (answers.Differs at) is = absurd is
 no_key g known f i (Arena s) (answers.Busy key) is = absurd is
 
 module _ (v w : WorldView) (later : Consistent w.locks) (core : Core) (t : Table) (at : At v core (stages.Reads t)) (kept : Kept)
-    (did : Fetched core.host v w t kept) (more : List Kept) (inserted : IsInserted kept core.tables more) where
+    (did : Fetched core.host v w t kept) (so : ReadSo core.host v w kept) (more : List Kept) (inserted : IsInserted kept core.tables more) where
   abbrev new : Core
   new = with_tables core more
 
@@ -198,14 +207,15 @@ module _ (v w : WorldView) (later : Consistent w.locks) (core : Core) (t : Table
       subst (λ (g : Geometry). IsCause g core (stages.Reads t) answer image image) did.looks.geometry
       (answer_by w.locks.geometry (kept_in more) core t core.source answer refl is image reads
       (λ f i d shown. place_shown w.locks.geometry (kept_in more) image later.geometry reads f i d shown)))
-      (omega (arith, less, none)) did.event (λ command may. quiet_fetched core.host v w t kept did command outcomes.Open may))
+      (omega (arith, less, none)) (reading_of v core.host kept) (spares_fetched core.host v w t kept did)
+      (λ command may. quiet_fetched core.host v w kept so command outcomes.Open may))
 
   goes : (after : Stage) → answer_at after ≡ None → At w new after → left new after < left core (stages.Reads t)
       → Went v w core new (stages.Reads t) (More after)
   goes after none stands less =
       went_on v w core new (stages.Reads t) after refl none same_now (looked_keeps core.host v w did.looks) stands
-      (looked_nothing core.host v w did.looks) less did.event
-      (λ command may. quiet_fetched core.host v w t kept did command outcomes.Open may)
+      (looked_nothing core.host v w did.looks) less (reading_of v core.host kept)
+      (spares_fetched core.host v w t kept did) (λ command may. quiet_fetched core.host v w kept so command outcomes.Open may)
 
   pub table_read : (sight : Sight) → IsSight w.locks.geometry (kept_in more) core.file core.index core.source sight
       → Went v w core new (stages.Reads t) (behind_look sight)

@@ -54,6 +54,9 @@ use Rattle.share_plans.specs.laws.EndLaws.{same_share}
 use Rattle.share_plans.specs.laws.KnownLaws.{place_shown, tables_read}
 use Rattle.share_plans.specs.laws.StepLaws.{IsPlain, looked_ended, looked_keeps, looked_nothing, went_on}
 use Rattle.share_plans.specs.laws.StillLaws.{base_on, comparing_on, pair_has, shown_on, still_looks}
+use Rattle.share_plans.specs.HintSpares.{SparesHints}
+use Rattle.share_plans.specs.laws.SpareLaws.{spares_place}
+use Rattle.share_plans.specs.laws.StepLaws.{same_image}
 
 -- what a read of a slot gave
 pub record Peeked (v w : WorldView) (core : Core) (s number : ℕ) : Type 0 where
@@ -75,6 +78,10 @@ module _ (v w : WorldView) (is : Consistent v.locks) (later : Consistent w.locks
   quiet_peek command may =
       quiet_table command v w core.host (table_of (Slot s)) got.did.0 outcomes.Open (HasTable-table_of v.locks.geometry (Slot s) has) got.did.1
       got.others (valid_now v is) (λ f i n r write. absurd (may.1 f i n write))
+
+  spares_peek : SparesHints v.locks.geometry peek_event.call
+  spares_peek =
+      spares_place v.locks.geometry (kinds.Table (table_of (Slot s))) (HasTable-table_of v.locks.geometry (Slot s) has) refl
 
   base_peeked : IsBase v core → IsBase w core
   base_peeked base =
@@ -105,13 +112,13 @@ module _ (v w : WorldView) (is : Consistent v.locks) (later : Consistent w.locks
       let now = base_peeked base in
       looked_ended v w core core stage answer plain fresh (same_share core core.taken) got.looks now.places now.taking now.empty
       (λ image. HasOwn v.locks.geometry image core own × (field v.locks.geometry image (Slot s) ≡ number)) (peek_sure own base shown)
-      (λ image both. cause image both.0 both.1) less peek_event quiet_peek
+      (λ image both. cause image both.0 both.1) less peek_event spares_peek quiet_peek
 
   goes : (stage after : Stage) → answer_at stage ≡ None → answer_at after ≡ None → At w core after → left core after < left core stage
       → Went v w core core stage (More after)
   goes stage after fresh none stands less =
       went_on v w core core stage after fresh none (same_share core core.taken) (looked_keeps core.host v w got.looks) stands
-      (looked_nothing core.host v w got.looks) less peek_event quiet_peek
+      (looked_nothing core.host v w got.looks) less peek_event spares_peek quiet_peek
 
   -- the first read
   pub first_peeked : (own : ℕ) → At v core (stages.Peeks own) → Went v w core core (stages.Peeks own) (behind_peek own number)
@@ -135,7 +142,7 @@ module _ (v w : WorldView) (is : Consistent v.locks) (later : Consistent w.locks
           let here = eqb-true (number - 1) own same in
           ended answers.Already tt (λ image has shown. (
             (own, has, subst (λ (p : Place). HasBlock v.locks.geometry image p own) (sym source) (omega (arith, shown, here, some))),
-            λ x there. refl,
+            same_image v.locks.geometry image,
           ))
       two false other some =
           let apart = eqb-false (number - 1) own other in
@@ -160,7 +167,7 @@ module _ (v w : WorldView) (is : Consistent v.locks) (later : Consistent w.locks
       pick true zero =
           ended answers.NoSource tt (λ image has shown. (
             subst (λ (p : Place). HasNoSource v.locks.geometry image core p (stages.Peeks own)) (sym source) (has, shown ∙ eqb-true number 0 zero),
-            λ x there. refl,
+            same_image v.locks.geometry image,
           ))
       pick false some = two (number - 1 == own) refl (eqb-false number 0 some)
 
@@ -185,7 +192,7 @@ module _ (v w : WorldView) (is : Consistent v.locks) (later : Consistent w.locks
           (λ image has shown. (
             subst (λ (p : Place). HasNoSource v.locks.geometry image core p (stages.PeeksAgain pair)) (sym source)
                 (has, λ names. eqb-false number (pair.source + 1) other (sym shown ∙ names)),
-            λ x there. refl,
+            same_image v.locks.geometry image,
           ))
 
 -- a slot's number may stand there

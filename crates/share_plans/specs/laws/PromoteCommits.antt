@@ -70,6 +70,8 @@ use Rattle.share_plans.specs.laws.KnownLaws.{place_shown, tables_read}
 use Rattle.share_plans.specs.laws.LinkLaws.{holds_count}
 use Rattle.share_plans.specs.laws.LinkRecordLaws.{Names, group_apart, named_in}
 use Rattle.share_plans.specs.laws.PromoteStages.{same_promotion}
+use Rattle.plan_parts.specs.MadeCalls.{CommittedSo, writing_of}
+use Rattle.share_plans.specs.laws.SpareLaws.{spares_place}
 
 -- edits of a slot and of a pointer are of other fields than what comes behind them
 pub slot_no_pointer : (t n f i : ℕ) → touches (edit (Slot t) n ∷ []) (Pointer f i) ≡ false
@@ -213,7 +215,7 @@ module _ (v : WorldView) (core : Promotion) (d t : ℕ) (part group : Kept) (is 
               let here : table_of (Slot s) ≡ part.which = ap tables.Part (own ∙ sym at.0.slot.own) ∙ sym at.0.slot.which in
               at.0.slot.lowest s here before (sym (seen.slots s (slot_has s before) here) ∙ zero);
         };
-        edits = step.numbers;
+        changes = step;
       }
         where
           slot_has : (s : ℕ) → s < t → HasField g (Slot s)
@@ -245,9 +247,10 @@ module _ (v : WorldView) (core : Promotion) (d t : ℕ) (part group : Kept) (is 
         rw (at.0.slot.which, named, at.1.1, a, b) refl
 
   pub promotion_committed : (w : WorldView) (k : ℕ) (entry : JournalRecord) (left : List Kept) (a : Applying)
-      → entry ≡ record { key = k; edits = es } → length left ≡ 3 → Committed core.host v w entry left → a.entry ≡ entry → a.left ≡ left
+      → entry ≡ record { key = k; edits = es } → length left ≡ 3 → Committed core.host v w entry left → CommittedSo core.host v w entry
+      → a.entry ≡ entry → a.left ≡ left
       → Went v w core core (doings.Commits d t part group) (More (doings.Closes (Applies a) (answers.Promoted t)))
-  promotion_committed w k entry left a entry_is long did a_entry a_left =
+  promotion_committed w k entry left a entry_is long did so a_entry a_left =
       let h = core.host in
       let edits_is : entry.edits ≡ es = ap (λ (r : JournalRecord). r.edits) entry_is in
       let keeps = keeps_memory h v w did.wrote.geometry did.wrote.memory in
@@ -275,6 +278,7 @@ module _ (v : WorldView) (core : Promotion) (d t : ℕ) (part group : Kept) (is 
         );
         answers_are = (both_of (told_of v.locks) (told_of w.locks) Done (IsCause g core (answers.Promoted t)) done (λ old new both. both.1), tt);
         less = omega (arith, long, long_too, taken);
-        event = did.event;
-        quiet = λ command may. did.quiet files command outcomes.Open;
+        event = writing_of v h (kinds.Journal h) (journal_bytes entry.key entry.edits);
+        spares = spares_place g (kinds.Journal h) at.0.base.is_host.host refl;
+        quiet = λ command may. so files command outcomes.Open;
       }

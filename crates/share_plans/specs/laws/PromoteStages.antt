@@ -45,10 +45,13 @@ use Rattle.share_plans.specs.declared.sight.Spot.{Spot}
 use Rattle.share_plans.specs.declared.sight.Spot.TheVariants as spots
 use Rattle.share_plans.specs.laws.ClosingLaws.{keeps_relocked}
 use Rattle.share_plans.specs.laws.KnownLaws.{are_packed, kept_more, place_shown, tables_read}
-use Rattle.share_plans.specs.laws.LookStageLaws.{less_at, long_more, quiet_fetched}
+use Rattle.share_plans.specs.laws.LookStageLaws.{less_at, long_more, quiet_fetched, spares_fetched}
 use Rattle.share_plans.specs.laws.PromoteSteps.{IsPlain, looked_ended, went_ended, went_on}
-use Rattle.share_plans.specs.laws.StepLaws.{looked_keeps, looked_nothing, looked_sure}
+use Rattle.share_plans.specs.laws.SpareLaws.{spares_try}
+use Rattle.share_plans.specs.laws.StepLaws.{looked_keeps, looked_nothing, looked_sure, same_image}
 use Rattle.share_plans.specs.laws.StillLaws.{IsStill, all_kept, host_on, one_kept, still_locked, still_looks}
+use Rattle.plan_parts.specs.MadeCalls.{ReadSo, TriedSo, reading_of, try_of}
+use Rattle.vol_layout.specs.Ranges.{HasResource}
 
 -- the promotion with other locks, and with other tables
 abbrev pub with_taken : Promotion → List Resource → Promotion
@@ -85,7 +88,7 @@ module _ (v w : WorldView) (core : Promotion) (still : IsStill core.host v w) wh
 
 -- a table of the file was read
 module _ (v w : WorldView) (later : Consistent w.locks) (core : Promotion) (t : Table) (at : At v core (doings.Reads t)) (kept : Kept)
-    (did : Fetched core.host v w t kept) (more : List Kept) (inserted : IsInserted kept core.tables more) where
+    (did : Fetched core.host v w t kept) (so : ReadSo core.host v w kept) (more : List Kept) (inserted : IsInserted kept core.tables more) where
   abbrev new : Promotion
   new = with_tables core more
 
@@ -121,19 +124,20 @@ module _ (v w : WorldView) (later : Consistent w.locks) (core : Promotion) (t : 
       (looked_ended v w core new (doings.Reads t) answer plain refl same_now did.looks base.is_host base.taking base.empty
       (Reads w.locks.geometry (kept_in more)) (tables_read w core.host more later base.kept base.empty)
       (λ image reads. subst (λ (g : Geometry). IsCause g core answer image image) did.looks.geometry (cause image reads))
-      (omega (arith, less, none)) did.event (λ command may. quiet_fetched core.host v w t kept did command outcomes.Open may))
+      (omega (arith, less, none)) (reading_of v core.host kept) (spares_fetched core.host v w t kept did)
+      (λ command may. quiet_fetched core.host v w kept so command outcomes.Open may))
 
   goes : (after : Doing) → answer_at after ≡ None → At w new after → left new after < left core (doings.Reads t)
       → Went v w core new (doings.Reads t) (More after)
   goes after none stands less =
       went_on v w core new (doings.Reads t) after refl none same_now (looked_keeps core.host v w did.looks) stands
-      (looked_nothing core.host v w did.looks) less did.event
-      (λ command may. quiet_fetched core.host v w t kept did command outcomes.Open may)
+      (looked_nothing core.host v w did.looks) less (reading_of v core.host kept)
+      (spares_fetched core.host v w t kept did) (λ command may. quiet_fetched core.host v w kept so command outcomes.Open may)
 
   pub file_read : (spot : Spot) → IsSpot w.locks.geometry (kept_in more) core.file core.index spot
       → Went v w core new (doings.Reads t) (behind_spot spot)
   file_read (spots.Needs u) is = let less = less_now in goes (doings.Reads u) refl (base_now, at.1, is, room_now) (omega (arith, less))
-  file_read spots.Nothing is = answered answers.Hole tt (λ image reads. (is image reads, λ x has. refl))
+  file_read spots.Nothing is = answered answers.Hole tt (λ image reads. (is image reads, same_image w.locks.geometry image))
   file_read (spots.Shows d false) is = let less = less_now in goes (doings.LocksPart d) refl (base_now, at.1, is) (omega (arith, less))
   file_read (spots.Shows d true) is =
       answered answers.Marked tt (λ image reads. (
@@ -144,14 +148,15 @@ module _ (v w : WorldView) (later : Consistent w.locks) (core : Promotion) (t : 
             reads (Pointer core.file core.index) (pointer_number (numbers'.At d true)) is.has is.pointer,
           ),
         ),
-        λ x has. refl,
+        same_image w.locks.geometry image,
       ))
 
 -- a lock was busy: what was locked before is freed
-pub lock_busy : (v w : WorldView) (core : Promotion) (stage : Doing) (after : List Resource) (key : Key) → answer_at stage ≡ None
-    → IsBase v core → length core.taken < left core stage → LockBusy core.host v w core.taken after key
+pub lock_busy : (v w : WorldView) (core : Promotion) (stage : Doing) (after : List Resource) (key : Key) (r : Resource) → answer_at stage ≡ None
+    → IsBase v core → length core.taken < left core stage → HasResource v.locks.geometry r → LockBusy core.host v w core.taken after key
+    → TriedSo core.host v w r (Some key)
     → Went v w core (with_taken core after) stage (ended_by after (answers.Busy key))
-lock_busy v w core stage after key fresh base less did =
+lock_busy v w core stage after key r fresh base less has did so =
     went_ended v w core (with_taken core after) stage (answers.Busy key) (record {
       fresh = fresh;
       same = same_promotion core after;
@@ -160,18 +165,21 @@ lock_busy v w core stage after key fresh base less did =
       taking = did.taking;
       empty = did.looks.facts (RecordIs []) base.empty;
       cause = looked_sure core.host v w (λ image. Unit {0}) (IsCause v.locks.geometry core (answers.Busy key)) did.looks
-          (sure_all w.locks core.host (λ image. Unit {0}) (λ image. tt)) (λ image is x has. refl);
+          (sure_all w.locks core.host (λ image. Unit {0}) (λ image. tt)) (λ image is. same_image v.locks.geometry image);
       other = did.other;
       less = subst (λ (ts : List Resource). length ts < left core stage) (sym did.same) less;
-      event = did.event;
-      quiet = λ command may. did.busy command may.0;
+      event = try_of v core.host r (Some key);
+      spares = spares_try v core.host r (Some key) has;
+      quiet = λ command may. so command may.0;
     })
 
 -- the own part was locked
 pub part_locked : (v w : WorldView) (core : Promotion) (d : ℕ) (after : List Resource) → At v core (doings.LocksPart d)
+    → HasResource v.locks.geometry (Part (own_part v.locks.geometry core.host))
     → LockTaken core.host v w (Part (own_part v.locks.geometry core.host)) core.taken after
+    → TriedSo core.host v w (Part (own_part v.locks.geometry core.host)) None
     → Went v w core (with_taken core after) (doings.LocksPart d) (More (doings.ReadsPart d))
-part_locked v w core d after at did =
+part_locked v w core d after at has did so =
     let still = still_locked core.host v w (Part (own_part v.locks.geometry core.host)) core.taken after did in
     went_on v w core (with_taken core after) (doings.LocksPart d) (doings.ReadsPart d) refl refl (same_promotion core after)
     (keeps_relocked core.host v w (Part (own_part v.locks.geometry core.host)) tt did.gains.relocks) (
@@ -180,13 +188,14 @@ part_locked v w core d after at did =
           (did.pushed ∙ ap (λ (ts : List Resource). Part (own_part v.locks.geometry core.host) ∷ ts) at.1),
       lone_on v w core still d at.2,
     )
-    did.gains.relocks.passes.images (omega arith) did.event (λ command may. did.quiet command outcomes.Open)
+    did.gains.relocks.passes.images (omega arith) (try_of v core.host (Part (own_part v.locks.geometry core.host)) None)
+    (spares_try v core.host (Part (own_part v.locks.geometry core.host)) None has) (λ command may. so command outcomes.Open)
 
 -- the group was locked
 pub group_locked : (v w : WorldView) (core : Promotion) (d t : ℕ) (part : Kept) (after : List Resource) → At v core (doings.LocksGroup d t part)
-    → LockTaken core.host v w (Group (d / per_table)) core.taken after
+    → LockTaken core.host v w (Group (d / per_table)) core.taken after → TriedSo core.host v w (Group (d / per_table)) None
     → Went v w core (with_taken core after) (doings.LocksGroup d t part) (More (doings.ReadsGroup d t part))
-group_locked v w core d t part after at did =
+group_locked v w core d t part after at did so =
     let still = still_locked core.host v w (Group (d / per_table)) core.taken after did in
     let long = ap length did.pushed in
     let one = ap length at.1 in
@@ -197,7 +206,9 @@ group_locked v w core d t part after at did =
       slot = slot_on v w core still t part at.3;
       held = (subst (AreHeld w core.host) did.pushed did.taking.each).2;
       few = omega (arith, long, one);
-    }) did.gains.relocks.passes.images (omega arith) did.event (λ command may. did.quiet command outcomes.Open)
+    }) did.gains.relocks.passes.images (omega arith) (try_of v core.host (Group (d / per_table)) None)
+    (spares_try v core.host (Group (d / per_table)) None (HasResource-resource_of v.locks.geometry (Count d) at.2.inside))
+    (λ command may. so command outcomes.Open)
 
 pub filling_on : (v w : WorldView) (core : Promotion) (d t : ℕ) (part : Kept) → IsStill core.host v w → IsTaking w core.host core.taken
     → IsFilling v core d t part → IsFilling w core d t part
@@ -211,9 +222,9 @@ filling_on v w core d t part still taking is = record {
 
 -- its table was read
 pub group_read : (v w : WorldView) (core : Promotion) (d t : ℕ) (part group : Kept) → At v core (doings.ReadsGroup d t part)
-    → Fetched core.host v w (table_of (Count d)) group
+    → Fetched core.host v w (table_of (Count d)) group → ReadSo core.host v w group
     → Went v w core core (doings.ReadsGroup d t part) (More (doings.Commits d t part group))
-group_read v w core d t part group at did =
+group_read v w core d t part group at did so =
     let still = still_looks core.host v w did.looks in
     went_on v w core core (doings.ReadsGroup d t part) (doings.Commits d t part group) refl refl (same_promotion core core.taken)
     (looked_keeps core.host v w did.looks) (
@@ -221,8 +232,8 @@ group_read v w core d t part group at did =
           at,
       (did.is_kept, did.which),
     )
-    (looked_nothing core.host v w did.looks) (omega arith) did.event
-    (λ command may. quiet_fetched core.host v w (table_of (Count d)) group did command outcomes.Open may)
+    (looked_nothing core.host v w did.looks) (omega arith) (reading_of v core.host group)
+    (spares_fetched core.host v w (table_of (Count d)) group did) (λ command may. quiet_fetched core.host v w group so command outcomes.Open may)
 
 -- the slot at an entry of a part
 slot_at : (g : Geometry) (p entry t : ℕ) → p < g.parts → entry < per_table → t ≡ per_table * p + entry
@@ -240,7 +251,7 @@ entry_inside s = omega arith
 
 -- the own part's table was read
 module _ (v w : WorldView) (later : Consistent w.locks) (core : Promotion) (d : ℕ) (at : At v core (doings.ReadsPart d)) (kept : Kept)
-    (did : Fetched core.host v w (tables.Part (own_part v.locks.geometry core.host)) kept) where
+    (did : Fetched core.host v w (tables.Part (own_part v.locks.geometry core.host)) kept) (so : ReadSo core.host v w kept) where
   abbrev p : ℕ
   p = own_part v.locks.geometry core.host
 
@@ -307,8 +318,8 @@ module _ (v w : WorldView) (later : Consistent w.locks) (core : Promotion) (d : 
         lone_on v w core looked d at.2,
         empty_slot entry lowest,
       )
-      (looked_nothing core.host v w did.looks) (omega arith) did.event
-      (λ command may. quiet_fetched core.host v w (tables.Part p) kept did command outcomes.Open may)
+      (looked_nothing core.host v w did.looks) (omega arith) (reading_of v core.host kept)
+      (spares_fetched core.host v w (tables.Part p) kept did) (λ command may. quiet_fetched core.host v w kept so command outcomes.Open may)
   part_read None lowest none =
       let base = part_base in
       let one = ap length at.1 in
@@ -320,6 +331,7 @@ module _ (v w : WorldView) (later : Consistent w.locks) (core : Promotion) (d : 
         (d, both.0),
         subst (λ (q : ℕ). (s : ℕ) → HasField w.locks.geometry (Slot s) → s / per_table ≡ q → logical w.locks.geometry image (Slot s) ≢ 0)
             (ap (λ (g : Geometry). own_part g core.host) (sym did.looks.geometry)) both.1,
-        λ x has. refl,
+        same_image w.locks.geometry image,
       ))
-      (omega (arith, one)) did.event (λ command may. quiet_fetched core.host v w (tables.Part p) kept did command outcomes.Open may)
+      (omega (arith, one)) (reading_of v core.host kept) (spares_fetched core.host v w (tables.Part p) kept did)
+      (λ command may. quiet_fetched core.host v w kept so command outcomes.Open may)

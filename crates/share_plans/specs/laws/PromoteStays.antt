@@ -51,6 +51,7 @@ promotion_closes v w core after closing answer None at did = record {
   answers_are = (refl, did.changes);
   less = did.less;
   event = did.event;
+  spares = did.spares;
   quiet = λ command may. did.quiet command (outcome_by (Some answer));
 }
 promotion_closes v w core after closing answer (Some next) at did = record {
@@ -60,6 +61,7 @@ promotion_closes v w core after closing answer (Some next) at did = record {
   answers_are = (refl, did.changes);
   less = did.less;
   event = did.event;
+  spares = did.spares;
   quiet = λ command may. did.quiet command (outcome_by (Some answer));
 }
 

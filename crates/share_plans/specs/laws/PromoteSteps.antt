@@ -15,6 +15,7 @@ use Rattle.plan_parts.specs.TakenLocks.{IsTaking}
 use Rattle.plan_parts.specs.declared.outcome.Outcome.{Outcome}
 use Rattle.plan_parts.specs.declared.outcome.Outcome.TheVariants as outcomes
 use Rattle.share_plans.specs.Closings.{ChangesNothing, KeepsHolds}
+use Rattle.share_plans.specs.HintSpares.{SparesHints}
 use Rattle.share_plans.specs.Promotions.{At, HasAnswered, IsCause, IsOtherKey, IsSame, Went, answer_at, ended_by, left, outcome_by}
 use Rattle.share_plans.specs.Stands.{IsHost}
 use Rattle.share_plans.specs.Went.{MayShare}
@@ -28,10 +29,11 @@ use Rattle.share_plans.specs.laws.StepLaws.{looked_keeps, looked_sure}
 -- the promotion goes on
 pub went_on : (v w : WorldView) (core new : Promotion) (stage after : Doing) → answer_at stage ≡ None → answer_at after ≡ None → IsSame core new
     → KeepsHolds core.host v w → At w new after → ChangesNothing v w → left new after < left core stage → (e : Event)
+    → SparesHints v.locks.geometry e.call
     → ((command : Command) → MayShare command
     → QuietCall command core.host v w e (Noted command core.host v outcomes.Open) (Noted command core.host w outcomes.Open))
     → Went v w core new stage (More after)
-went_on v w core new stage after fresh later same keeps stands nothing less e quiet = record {
+went_on v w core new stage after fresh later same keeps stands nothing less e spares quiet = record {
   same = same;
   keeps = keeps;
   stands = stands;
@@ -39,6 +41,7 @@ went_on v w core new stage after fresh later same keeps stands nothing less e qu
       (subst (HasAnswered v w core None) (sym later) nothing);
   less = less;
   event = e;
+  spares = spares;
   quiet = λ command may.
       subst (λ (o : Option Promoted).
       QuietCall command core.host v w e (Noted command core.host v (outcome_by o)) (Noted command core.host w (outcome_by (answer_at after))))
@@ -60,6 +63,7 @@ pub record IsEnding (v w : WorldView) (core new : Promotion) (stage : Doing) (an
   pub other : IsOtherKey v core.host answer
   pub less : length new.taken < left core stage
   pub event : Event
+  pub spares : SparesHints v.locks.geometry event.call
   pub quiet : (command : Command) → MayShare command
       → QuietCall command core.host v w event (Noted command core.host v outcomes.Open) (Noted command core.host w (outcome_by (Some answer)))
 
@@ -83,6 +87,7 @@ module _ (v w : WorldView) (core new : Promotion) (stage : Doing) (answer : Prom
     answers_are = came_answers;
     less = let some = is.less in omega (arith, some);
     event = is.event;
+    spares = is.spares;
     quiet = came_quiet;
   }
   by_taken (r ∷ more) some = record {
@@ -92,6 +97,7 @@ module _ (v w : WorldView) (core new : Promotion) (stage : Doing) (answer : Prom
     answers_are = came_answers;
     less = is.less;
     event = is.event;
+    spares = is.spares;
     quiet = came_quiet;
   }
 
@@ -122,10 +128,11 @@ pub looked_ended : (v w : WorldView) (core new : Promotion) (stage : Doing) (ans
     → IsSame core new → Looks core.host v w → IsHost w new.host new.file → IsTaking w new.host new.taken
     → Knows w new.host (RecordIs []) → (P : Image → Type 0) → Sure w.locks core.host P
     → ((image : Image) → P image → IsCause v.locks.geometry core answer image image) → length new.taken < left core stage → (e : Event)
+    → SparesHints v.locks.geometry e.call
     → ((command : Command) → MayShare command
     → QuietCall command core.host v w e (Noted command core.host v outcomes.Open) (Noted command core.host w outcomes.Open))
     → Went v w core new stage (ended_by new.taken answer)
-looked_ended v w core new stage answer plain fresh same looks is_host taking empty P sure cause less e quiet =
+looked_ended v w core new stage answer plain fresh same looks is_host taking empty P sure cause less e spares quiet =
     went_ended v w core new stage answer (record {
       fresh = fresh;
       same = same;
@@ -137,6 +144,7 @@ looked_ended v w core new stage answer plain fresh same looks is_host taking emp
       other = plain_other v core.host answer plain;
       less = less;
       event = e;
+      spares = spares;
       quiet = λ command may.
           subst (λ (o : Outcome). QuietCall command core.host v w e (Noted command core.host v outcomes.Open) (Noted command core.host w o))
           (sym (plain_open answer plain)) (quiet command may);

@@ -2,6 +2,7 @@
 use Rattle.std.proofs.Common.{◌≡◌, ◌<◌, ℕ, List, [], ◌∷◌, None, Option, Some, refl, ap, sym, subst, ◌∙◌, arith, length}
 use Rattle.std.specs.Prelude.{Contains, IfSome}
 use Rattle.vol_base.specs.declared.command.Command.{Command}
+use Rattle.vol_layout.specs.declared.geometry.Geometry.{Geometry}
 use Rattle.vol_layout.specs.declared.kind.Resource.{Resource}
 use Rattle.image_view.specs.Images.{Image}
 use Rattle.shared_disk.specs.Events.{Event}
@@ -22,6 +23,7 @@ use Rattle.plan_parts.specs.declared.outcome.Outcome.{Outcome}
 use Rattle.plan_parts.specs.declared.outcome.Outcome.TheVariants as outcomes
 use Rattle.share_plans.specs.Causes.{HasAnswered, IsCause, IsOtherKey}
 use Rattle.share_plans.specs.Closings.{ChangesNothing, KeepsHolds}
+use Rattle.share_plans.specs.HintSpares.{SparesHints}
 use Rattle.share_plans.specs.Lefts.{left}
 use Rattle.share_plans.specs.Stands.{At, HasPlaces}
 use Rattle.share_plans.specs.Went.{IsSame, MayShare, Went, answer_at, ended_by, outcome_by}
@@ -32,11 +34,15 @@ use Rattle.share_plans.specs.declared.stage.Core.{Core}
 use Rattle.share_plans.specs.declared.stage.Stage.{Stage}
 use Rattle.share_plans.specs.laws.ClosingLaws.{keeps_memory}
 
+-- an image that stays has changed in nothing
+pub same_image : (g : Geometry) (image : Image) → Changes g [] None image image
+same_image g image = record { super = refl; numbers = λ x has. refl; blocks = λ d has. refl }
+
 -- a call that wrote nothing changes nothing
 pub looked_nothing : (h : ℕ) (v w : WorldView) → Looks h v w → ChangesNothing v w
 looked_nothing h v w looks =
     both_same (told_of v.locks) (told_of w.locks) (Changes v.locks.geometry [] None) (ap (λ (s : State). s.told) looks.state)
-    (λ image. record { super = refl; numbers = λ x has. refl; blocks = λ d has. refl })
+    (same_image v.locks.geometry)
 
 pub looked_keeps : (h : ℕ) (v w : WorldView) → Looks h v w → KeepsHolds h v w
 looked_keeps h v w looks = keeps_memory h v w looks.geometry looks.memory
@@ -57,10 +63,11 @@ looked_sure h v w P R looks sure f =
 -- the share goes on
 pub went_on : (v w : WorldView) (core new : Core) (stage after : Stage) → answer_at stage ≡ None → answer_at after ≡ None → IsSame core new
     → KeepsHolds core.host v w → At w new after → ChangesNothing v w → left new after < left core stage → (e : Event)
+    → SparesHints v.locks.geometry e.call
     → ((command : Command) → MayShare command
     → QuietCall command core.host v w e (Noted command core.host v outcomes.Open) (Noted command core.host w outcomes.Open))
     → Went v w core new stage (More after)
-went_on v w core new stage after fresh later same keeps stands nothing less e quiet = record {
+went_on v w core new stage after fresh later same keeps stands nothing less e spares quiet = record {
   same = same;
   keeps = keeps;
   stands = stands;
@@ -68,6 +75,7 @@ went_on v w core new stage after fresh later same keeps stands nothing less e qu
       (subst (HasAnswered v w core stage None) (sym later) nothing);
   less = less;
   event = e;
+  spares = spares;
   quiet = λ command may.
       subst (λ (o : Option Shared).
       QuietCall command core.host v w e (Noted command core.host v (outcome_by o)) (Noted command core.host w (outcome_by (answer_at after))))
@@ -89,6 +97,7 @@ pub record IsEnding (v w : WorldView) (core new : Core) (stage : Stage) (answer 
   pub other : IsOtherKey v core.host answer
   pub less : length new.taken < left core stage
   pub event : Event
+  pub spares : SparesHints v.locks.geometry event.call
   pub quiet : (command : Command) → MayShare command
       → QuietCall command core.host v w event (Noted command core.host v outcomes.Open) (Noted command core.host w (outcome_by (Some answer)))
 
@@ -112,6 +121,7 @@ module _ (v w : WorldView) (core new : Core) (stage : Stage) (answer : Shared) (
     answers_are = came_answers;
     less = let some = is.less in omega (arith, some);
     event = is.event;
+    spares = is.spares;
     quiet = came_quiet;
   }
   by_taken (r ∷ more) some = record {
@@ -121,6 +131,7 @@ module _ (v w : WorldView) (core new : Core) (stage : Stage) (answer : Shared) (
     answers_are = came_answers;
     less = is.less;
     event = is.event;
+    spares = is.spares;
     quiet = came_quiet;
   }
 
@@ -153,10 +164,11 @@ pub looked_ended : (v w : WorldView) (core new : Core) (stage : Stage) (answer :
     → IsSame core new → Looks core.host v w → HasPlaces w new.host new.file new.source → IsTaking w new.host new.taken
     → Knows w new.host (RecordIs []) → (P : Image → Type 0) → Sure w.locks core.host P
     → ((image : Image) → P image → IsCause v.locks.geometry core stage answer image image) → length new.taken < left core stage → (e : Event)
+    → SparesHints v.locks.geometry e.call
     → ((command : Command) → MayShare command
     → QuietCall command core.host v w e (Noted command core.host v outcomes.Open) (Noted command core.host w outcomes.Open))
     → Went v w core new stage (ended_by new.taken answer)
-looked_ended v w core new stage answer plain fresh same looks places taking empty P sure cause less e quiet =
+looked_ended v w core new stage answer plain fresh same looks places taking empty P sure cause less e spares quiet =
     went_ended v w core new stage answer (record {
       fresh = fresh;
       same = same;
@@ -168,6 +180,7 @@ looked_ended v w core new stage answer plain fresh same looks places taking empt
       other = plain_other v core.host answer plain;
       less = less;
       event = e;
+      spares = spares;
       quiet = λ command may.
           subst (λ (o : Outcome). QuietCall command core.host v w e (Noted command core.host v outcomes.Open) (Noted command core.host w o))
           (sym (plain_open answer plain)) (quiet command may);

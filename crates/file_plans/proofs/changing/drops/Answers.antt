@@ -27,7 +27,7 @@ returns-in-Ok-clause-went g c =
     (subst Consistent c.locks-2.ensures c.geometry-geometry-2.ensures.consistent) (Punch c.file-file.result c.index-index.result) _
     c.in-Ok.applying _ _ c.requires.stands.0 (λ command n noted. noted)
     (punched _ _ c.args.core.now.call c.args.number _ _ c.requires.stands.1 c.file-file.ensures c.index-index.ensures)
-    c.in-Ok.ensures.went c.places.ensures.core c.places.ensures.step c.places.ensures.stage
+    tt c.in-Ok.ensures.went c.places.ensures.core c.places.ensures.step c.places.ensures.stage
 
 pub returns-in-Err-clause-cut : goal.returns-in-Err-clause-cut
 returns-in-Err-clause-cut g c =

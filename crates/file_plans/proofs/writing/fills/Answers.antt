@@ -5,6 +5,9 @@ use Rattle.disk_locks.specs.Consistent.{Consistent}
 use Rattle.host_facts.specs.Facts.Fact.{FreshIs}
 use Rattle.host_facts.specs.Knows.{Knows}
 use Rattle.file_plans.specs.Calls.{block_of}
+use Rattle.file_plans.specs.Sights.{MayReply}
+use Rattle.file_plans.specs.declared.call.FileCall.{FileCall}
+use Rattle.file_plans.specs.laws.SightLaws.{fresh_in_range}
 use Rattle.file_plans.specs.declared.stage.Stage.TheVariants as stages
 use Rattle.file_plans.specs.laws.WriteEndLaws.{cut_at, record_placed}
 use Rattle.file_plans.proofs.writing.fills.Goals as goal
@@ -18,6 +21,8 @@ returns-in-Ok-clause-went g c =
     (subst Consistent c.locks-2.ensures c.geometry-geometry-2.ensures.consistent)
     (Write c.written-file.result.0 c.written-file.result.1 c.written-file.result.2.now) _ c.in-Ok.applying _ _ c.requires.stands.0.comes
     (λ command n noted. noted) c.written-file.ensures
+    (subst (λ (k : FileCall). MayReply c.args.world.now.locks.geometry Done k) c.written-file.ensures
+    (fresh_in_range c.args.world.now.locks.geometry _ c.args.core.now.call _ c.requires.stands.0.sight))
     (c.in-Ok.ensures.went c.written-file.result.2.now
     (subst (λ (bytes : List ℕ). Knows c.args.world.now c.args.core.now.host (FreshIs c.args.fresh.number bytes))
     (ap (λ call. (block_of call).0) c.written-file.ensures) c.requires.stands.1))

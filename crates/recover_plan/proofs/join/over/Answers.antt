@@ -39,4 +39,4 @@ returns-in-Ok-Found-clause-others g c =
     (subst Consistent c.locks-2.ensures c.geometry-later.ensures.consistent) c.in-Ok-Found.ensures.others c.found.ensures.left
 
 pub returns-in-Err-clause-cut : goal.returns-in-Err-clause-cut
-returns-in-Err-clause-cut g c = c.in-Err.ensures.cut Join c.args.watch.now 1 (inl (refl, refl))
+returns-in-Err-clause-cut g c = c.in-Err.ensures.cut.cuts Join c.args.watch.now 1 (inl (refl, refl))

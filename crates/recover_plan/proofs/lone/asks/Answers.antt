@@ -24,13 +24,13 @@ returns-in-Err-NoKeys-clause-came g c =
 pub returns-in-Err-Failed-clause-refused : goal.returns-in-Err-Failed-clause-refused
 returns-in-Err-Failed-clause-refused g c =
     ask_refused c.args.world.now c.ask_key.new.world c.args.host c.args.of (subst Consistent c.locks.ensures c.geometry-geometry.ensures.consistent) c.in-Err-Failed.ensures.consistent
-    c.in-Err-Failed.ensures.others c.in-Err-Failed.ensures.standing c.requires.at refusals.Failed steps.Failed refl
+    c.in-Err-Failed.ensures.others c.in-Err-Failed.ensures.standing c.requires.at refusals.Failed steps.Failed (λ e. cc) refl
     (rw c.in-Err-Failed.field-0-is at c.in-Err-Failed.ensures.did)
 
 pub returns-in-Err-NoMemory-clause-refused : goal.returns-in-Err-NoMemory-clause-refused
 returns-in-Err-NoMemory-clause-refused g c =
     ask_refused c.args.world.now c.ask_key.new.world c.args.host c.args.of (subst Consistent c.locks.ensures c.geometry-geometry.ensures.consistent) c.in-Err-NoMemory.ensures.consistent
-    c.in-Err-NoMemory.ensures.others c.in-Err-NoMemory.ensures.standing c.requires.at refusals.NoMemory steps.NoMemory refl
+    c.in-Err-NoMemory.ensures.others c.in-Err-NoMemory.ensures.standing c.requires.at refusals.NoMemory steps.NoMemory (λ e. cc) refl
     (rw c.in-Err-NoMemory.field-0-is at c.in-Err-NoMemory.ensures.did)
 
 pub returns-in-Err-Fenced-clause-refused : goal.returns-in-Err-Fenced-clause-refused

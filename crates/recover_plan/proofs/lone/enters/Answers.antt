@@ -9,6 +9,7 @@ use Rattle.recover_plan.specs.laws.JoinSteps.{entry_cut}
 use Rattle.recover_plan.specs.laws.LoneLaws.{entered_came, entry_base, entry_some, found_came, refused_by, entry_own}
 use Rattle.recover_plan.specs.Lones.{entry_by}
 use Rattle.recover_plan.proofs.lone.enters.Goals as goal
+use Rattle.recover_plan.specs.laws.StepLaws.{shut_out}
 
 pub key-own-requires-clause-host : goal.key-own-requires-clause-host
 key-own-requires-clause-host g c = (entry_base c.args.world.now c.args.host c.args.of c.args.again c.requires.at).0.host
@@ -54,6 +55,8 @@ returns-in-Err-clause-others g c =
 pub returns-in-Err-clause-refused : goal.returns-in-Err-clause-refused
 returns-in-Err-clause-refused g c =
     refused_by Join c.args.host c.args.world.now c.set_live.new.world c.in-Err.why (λ n. Unit {0})
+    (entry_base c.args.world.now c.args.host c.args.of c.args.again c.requires.at).0.key
+    (shut_out c.args.world.now c.set_live.new.world c.args.host _ _ _ c.in-Err.why c.in-Err.ensures.did)
     (entry_cut c.args.world.now c.set_live.new.world c.args.host Free c.in-Err.why (λ n. Unit {0}) (subst Consistent c.locks.ensures c.geometry-geometry.ensures.consistent)
     (entry_base c.args.world.now c.args.host c.args.of c.args.again c.requires.at).0 (returns-in-Err-clause-others g c) c.in-Err.ensures.did
     (λ at is. c.in-Err.ensures.sound at (ap Err is)))

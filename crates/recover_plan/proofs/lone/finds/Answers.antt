@@ -9,7 +9,7 @@ use Rattle.plan_parts.specs.laws.TakenLaws.{others_locks}
 use Rattle.vol_base.specs.declared.command.Command.TheVariants.{Beat}
 use Rattle.vol_layout.specs.declared.kind.Kind.TheVariants as kinds
 use Rattle.recover_plan.specs.laws.LoneLaws.{claimed_on, read_came, refused_by}
-use Rattle.recover_plan.specs.laws.StepLaws.{ready_key}
+use Rattle.recover_plan.specs.laws.StepLaws.{ready_key, shut_out}
 use Rattle.recover_plan.proofs.lone.finds.Goals as goal
 
 pub goes_on-requires : goal.goes_on-requires
@@ -40,6 +40,8 @@ returns-in-Err-clause-others g c =
 pub returns-in-Err-clause-refused : goal.returns-in-Err-clause-refused
 returns-in-Err-clause-refused g c =
     refused_by Beat c.args.host c.args.world.now c.read.new.world c.in-Err.why (λ n. Unit {0})
+    (ready_key c.args.world.now c.args.host (subst Consistent c.locks.ensures c.geometry-geometry.ensures.consistent) c.requires.at.3)
+    (shut_out c.args.world.now c.read.new.world c.args.host _ _ _ c.in-Err.why c.in-Err.ensures.did)
     (cut_read c.args.world.now c.read.new.world c.args.host (kinds.Slot c.args.of) _ c.in-Err.why (returns-in-Err-clause-others g c)
     c.in-Err.ensures.did (λ at is. c.in-Err.ensures.sound at (ap Err is)) Beat)
 

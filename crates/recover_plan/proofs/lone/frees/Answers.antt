@@ -8,6 +8,7 @@ use Rattle.recover_plan.specs.laws.FreeSteps.{free_cut}
 use Rattle.recover_plan.specs.laws.LoneEnds.{freed_came, recovers, thrice}
 use Rattle.recover_plan.specs.laws.LoneLaws.{refused_by}
 use Rattle.recover_plan.proofs.lone.frees.Goals as goal
+use Rattle.recover_plan.specs.laws.StepLaws.{shut_out}
 
 pub free_slot-requires-clause-host : goal.free_slot-requires-clause-host
 free_slot-requires-clause-host g c = c.requires.at.0.base.host
@@ -40,6 +41,7 @@ returns-in-Err-clause-others g c =
 pub returns-in-Err-clause-refused : goal.returns-in-Err-clause-refused
 returns-in-Err-clause-refused g c =
     refused_by (Recover c.args.of) c.args.host c.args.world.now c.free_slot.new.world c.in-Err.why (λ n. Unit {0})
+    c.requires.at.0.base.key (shut_out c.args.world.now c.free_slot.new.world c.args.host _ _ _ c.in-Err.why c.in-Err.ensures.did)
     (free_cut c.args.world.now c.free_slot.new.world c.args.host c.args.of c.args.dead.0 thrice c.in-Err.why
     (subst Consistent c.locks.ensures c.geometry-geometry.ensures.consistent) (recovers c.args.world.now c.free_slot.new.world c.args.host c.args.of c.args.dead (subst Consistent c.locks.ensures c.geometry-geometry.ensures.consistent) c.requires.at c.requires.other) c.requires.at.1
     (returns-in-Err-clause-others g c) c.in-Err.ensures.did (λ at is. c.in-Err.ensures.sound at (ap Err is)) (λ n. Unit {0}))

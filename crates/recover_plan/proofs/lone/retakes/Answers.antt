@@ -16,6 +16,7 @@ use Rattle.recover_plan.specs.laws.JoinSteps.{entry_cut}
 use Rattle.recover_plan.specs.laws.LoneEnds.{retakes}
 use Rattle.recover_plan.specs.laws.LoneLaws.{entered_came, refused_by}
 use Rattle.recover_plan.proofs.lone.retakes.Goals as goal
+use Rattle.recover_plan.specs.laws.StepLaws.{shut_out}
 
 pub key-own-requires-clause-host : goal.key-own-requires-clause-host
 key-own-requires-clause-host g c = c.requires.at.0.base.host
@@ -64,7 +65,7 @@ returns-in-Ok-Claimed-clause-came g c =
 
 pub returns-in-Ok-Found-clause-refused : goal.returns-in-Ok-Found-clause-refused
 returns-in-Ok-Found-clause-refused g c =
-    refused_by Join c.args.host c.args.world.now c.forget.new.world _ _
+    refused_by Join c.args.host c.args.world.now c.forget.new.world _ _ c.requires.at.0.base.key (λ fenced. absurd cc)
     (retake_cut c.args.world.now c.args.host nothing c.args.dead c.key-own.result (subst Consistent c.locks.ensures c.geometry.ensures.consistent) (retakes c.args.world.now c.args.host c.args.dead c.requires.at) c.key-own.ensures
     c.set_live.new.world c.forget.new.world c.in-Ok-Found.field-0-0 c.place-place.result c.in-Ok-Found.ensures.consistent
     c.in-Ok-Found.ensures.others c.in-Ok-Found.ensures.standing (rw c.in-Ok-Found.field-0-is at c.in-Ok-Found.ensures.did) c.forget.ensures
@@ -85,7 +86,8 @@ returns-in-Err-clause-others g c =
 
 pub returns-in-Err-clause-refused : goal.returns-in-Err-clause-refused
 returns-in-Err-clause-refused g c =
-    refused_by Join c.args.host c.args.world.now c.set_live.new.world c.in-Err.why (λ n. Unit {0})
+    refused_by Join c.args.host c.args.world.now c.set_live.new.world c.in-Err.why (λ n. Unit {0}) c.requires.at.0.base.key
+    (shut_out c.args.world.now c.set_live.new.world c.args.host _ _ _ c.in-Err.why c.in-Err.ensures.did)
     (entry_cut c.args.world.now c.set_live.new.world c.args.host (Recovering c.args.dead c.key-own.result) c.in-Err.why (λ n. Unit {0})
     (subst Consistent c.locks.ensures c.geometry.ensures.consistent) c.requires.at.0.base (returns-in-Err-clause-others g c) c.in-Err.ensures.did
     (λ at is. c.in-Err.ensures.sound at (ap Err is)))

@@ -8,6 +8,7 @@ returns-in-Ok-clause-came g c = record {
   owes = c.in-Ok.ensures.owes;
   stands = c.in-Ok.ensures.watched;
   tables = λ keeps uncut. c.in-Ok.ensures.tables;
+  volume = λ leaves uncut. absurd leaves;
   fewer = omega arith;
 }
 

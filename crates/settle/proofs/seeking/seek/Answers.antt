@@ -1,4 +1,4 @@
-use Rattle.std.proofs.Common.{◌∙◌, arith, subst, sym}
+use Rattle.std.proofs.Common.{refl, ◌∙◌, arith, subst, sym}
 use Rattle.std.specs.Prelude.{IfSome}
 use Rattle.settle.specs.Gathered.{spot_at}
 use Rattle.settle.specs.Reads.{IsCompared}
@@ -13,6 +13,7 @@ loop-number-init g c = record {
   apart = told-apart-none c.args.geometry (g.L.Lone.told c.args.lone.now) (spot_at c.args.found.now.spots) c.args.spot.file c.args.spot.index c.args.digest;
   passed = λ m below none. absurd (omega arith);
   volume = c.requires.volume;
+  began = refl;
   count = omega arith;
 }
 
@@ -31,6 +32,15 @@ returns-in-Err-clause-moves g c =
     told-moves-join c.args.geometry c.args.spot.file c.args.spot.index (g.L.Lone.told c.args.lone.now) (g.L.Lone.told c.loop-number.lone)
     (g.L.Lone.told c.compare.new.lone) c.loop-number.invariant.moves c.in-Err.ensures.moves
 
+pub returns-in-Ok-Same-clause-began : goal.returns-in-Ok-Same-clause-began
+returns-in-Ok-Same-clause-began g c = c.in-Ok-Same.ensures.began ∙ c.loop-number.invariant.began
+
+pub returns-in-Ok-Hole-clause-began : goal.returns-in-Ok-Hole-clause-began
+returns-in-Ok-Hole-clause-began g c = c.in-Ok-Hole.ensures.began ∙ c.loop-number.invariant.began
+
+pub returns-in-Err-clause-began : goal.returns-in-Err-clause-began
+returns-in-Err-clause-began g c = c.in-Err.ensures.began ∙ c.loop-number.invariant.began
+
 pub loop-number-preserved : goal.loop-number-preserved
 loop-number-preserved g c =
     let there = sym c.find.ensures ∙ c.in-Some.is in
@@ -44,5 +54,6 @@ loop-number-preserved g c =
           c.in-Ok-Other.field-0-is c.in-Ok-Other.ensures.compared);
       passed = passed-more (spot_at c.args.found.now.spots) c.args.digest c.loop-number.number c.in-Some.source there c.loop-number.invariant.passed;
       volume = c.in-Ok-Other.ensures.volume;
+      began = c.in-Ok-Other.ensures.began ∙ c.loop-number.invariant.began;
       count = let more = c.in-Ok-Other.ensures.count in let before = c.loop-number.invariant.count in omega arith;
     }

@@ -13,5 +13,6 @@ invariant-loop-number g l = record {
   apart : IfSome (g.L.Lone.told l.lone) (λ t. IsApart l.fn.geometry t.image (spot_at l.fn.found.spots) l.fn.spot.file l.fn.spot.index l.fn.digest l.number);
   passed : (m : ℕ) → m < l.number → spot_at l.fn.found.spots l.fn.digest m ≢ None;
   volume : g.L.Lone.volume l.lone ≡ l.fn.geometry;
+  began : g.L.Lone.began l.lone ≡ g.L.Lone.began l.initial.lone;
   count : g.L.Lone.answered l.lone ≤ g.L.Lone.answered l.initial.lone + 18 * l.number;
 }

@@ -80,3 +80,9 @@ returns-clause-count g c =
 
 pub returns-clause-stopped : goal.returns-clause-stopped
 returns-clause-stopped g c = c.in-Err.ensures.stopped
+
+pub returns-in-Ok-clause-began : goal.returns-in-Ok-clause-began
+returns-in-Ok-clause-began g c = c.in-Ok.ensures.began
+
+pub returns-clause-began : goal.returns-clause-began
+returns-clause-began g c = c.in-Err.ensures.began

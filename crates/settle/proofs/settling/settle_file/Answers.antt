@@ -1,4 +1,4 @@
-use Rattle.std.proofs.Common.{Bool, Option, arith, subst}
+use Rattle.std.proofs.Common.{◌∙◌, refl, Bool, Option, arith, subst}
 use Rattle.shared_disk.specs.State.{OnImages}
 use Rattle.settle.specs.Gathered.{spot_at}
 use Rattle.settle.specs.Rows.{PlaceComes}
@@ -13,6 +13,7 @@ loop-index-init g c = record {
   few = omega arith;
   len = omega arith;
   volume = c.requires.volume;
+  began = refl;
 }
 
 pub returns-in-Ok-None-clause-row : goal.returns-in-Ok-None-clause-row
@@ -45,6 +46,7 @@ loop-index-preserved g c = record {
       omega arith;
   len = let more = c.in-Ok-Some.ensures.len in let before = c.loop-index.invariant.len in omega arith;
   volume = c.in-Ok-Some.ensures.volume;
+  began = c.in-Ok-Some.ensures.began ∙ c.loop-index.invariant.began;
 }
 
 pub returns-clause-row : goal.returns-clause-row
@@ -137,3 +139,12 @@ returns-clause-len g c =
 
 pub returns-clause-volume : goal.returns-clause-volume
 returns-clause-volume g c = c.loop-index.invariant.volume
+
+pub returns-in-Ok-None-clause-began : goal.returns-in-Ok-None-clause-began
+returns-in-Ok-None-clause-began g c = c.in-Ok-None.ensures.began ∙ c.loop-index.invariant.began
+
+pub returns-in-Err-clause-began : goal.returns-in-Err-clause-began
+returns-in-Err-clause-began g c = c.in-Err.ensures.began ∙ c.loop-index.invariant.began
+
+pub returns-clause-began : goal.returns-clause-began
+returns-clause-began g c = c.loop-index.invariant.began

@@ -14,4 +14,5 @@ invariant-loop-index g l = record {
   few : l.live ≤ l.index;
   len : index_map_len l.found.spots ≤ index_map_len l.initial.found.spots + l.index;
   volume : g.L.Lone.volume l.lone ≡ l.fn.geometry;
+  began : g.L.Lone.began l.lone ≡ g.L.Lone.began l.initial.lone;
 }

@@ -1,4 +1,4 @@
-use Rattle.std.proofs.Common.{◌≡◌, arith, subst, ℕ}
+use Rattle.std.proofs.Common.{◌∙◌, refl, ◌≡◌, arith, subst, ℕ}
 use Rattle.shared_disk.specs.State.{OnImages}
 use Rattle.settle.specs.Gathered.{spot_at}
 use Rattle.settle.specs.Rows.{IsRun}
@@ -12,6 +12,7 @@ loop-file-init g c = record {
   few = omega arith;
   len = let none = c.requires.none in omega arith;
   volume = c.requires.volume;
+  began = refl;
 }
 
 pub settle_file-requires-clause-volume : goal.settle_file-requires-clause-volume
@@ -67,6 +68,7 @@ loop-file-preserved g c = record {
   few = let few = c.loop-file.invariant.few in let more = c.in-Ok.ensures.few in omega arith;
   len = let before = c.loop-file.invariant.len in let more = c.in-Ok.ensures.len in omega arith;
   volume = c.in-Ok.ensures.volume;
+  began = c.in-Ok.ensures.began ∙ c.loop-file.invariant.began;
 }
 
 pub returns-clause-run : goal.returns-clause-run
@@ -85,3 +87,9 @@ returns-clause-len g c =
 
 pub returns-clause-volume : goal.returns-clause-volume
 returns-clause-volume g c = c.loop-file.invariant.volume
+
+pub returns-in-Err-clause-began : goal.returns-in-Err-clause-began
+returns-in-Err-clause-began g c = c.in-Err.ensures.began ∙ c.loop-file.invariant.began
+
+pub returns-clause-began : goal.returns-clause-began
+returns-clause-began g c = c.loop-file.invariant.began

@@ -14,4 +14,5 @@ invariant-loop-file g l = record {
   few : l.live ≤ 16128 * l.file;
   len : index_map_len l.found.spots ≤ 16128 * l.file;
   volume : g.L.Lone.volume l.lone ≡ l.fn.geometry;
+  began : g.L.Lone.began l.lone ≡ g.L.Lone.began l.initial.lone;
 }

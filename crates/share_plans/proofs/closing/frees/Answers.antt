@@ -8,4 +8,4 @@ pub returns-in-Ok-clause-went : goal.returns-in-Ok-clause-went
 returns-in-Ok-clause-went g c =
     subst (Closes c.args.host c.args.world.now c.free_last.new.world c.args.taken.now c.free_last.new.self Frees) (sym c.rested.ensures)
     (lock_closes c.args.host c.args.world.now c.free_last.new.world c.args.taken.now c.free_last.new.self c.in-Ok._freed c.requires.stands
-    c.in-Ok.ensures.went)
+    c.in-Ok.ensures.went c.in-Ok.ensures.so)

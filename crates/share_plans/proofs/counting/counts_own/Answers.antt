@@ -11,4 +11,4 @@ returns-in-Ok-clause-went g c =
     subst (Went c.args.world.now c.fetch-came.new.world c.args.core.now c.args.core.now (stages.CountsOwn c.args.pair)) (sym c.behind_counts.ensures)
     (own_counted c.args.world.now c.fetch-came.new.world c.args.core.now c.args.pair c.in-Ok.kept c.requires.stands
     (subst (λ (t : Table). Fetched c.args.core.now.host c.args.world.now c.fetch-came.new.world t c.in-Ok.kept) c.table_of-which.ensures.table
-    c.in-Ok.ensures.went))
+    c.in-Ok.ensures.went) c.in-Ok.ensures.so)

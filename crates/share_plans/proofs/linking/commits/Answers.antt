@@ -84,4 +84,4 @@ returns-in-Ok-clause-went g c =
     (c.geometry-geometry.ensures.geometry ∙ ap (λ (l : LocksView). l.geometry) c.locks.ensures) c.link-entry.ensures in
     link_committed c.args.world.now c.args.core.now c.args.pair c.args.group c.args.other is c.requires.stands c.commit-came.new.world
     c.unwrap-key.result.0 c.link-entry.result c.tables-left.result (record { entry = c.link-entry.result; left = c.tables-left.result }) entry_is
-    c.tables-left.ensures c.in-Ok.ensures.went refl refl
+    c.tables-left.ensures c.in-Ok.ensures.went c.in-Ok.ensures.so refl refl

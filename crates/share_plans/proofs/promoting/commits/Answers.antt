@@ -48,4 +48,4 @@ returns-in-Ok-clause-went g c =
     promotion_committed c.args.world.now c.args.core.now c.args.block c.args.slot c.args.part c.args.group is c.requires.stands
     c.commit-came.new.world c.unwrap-key.result.0 c.entry_of-entry.result c.new-left.result
     (record { entry = c.entry_of-entry.result; left = c.new-left.result }) c.entry_of-entry.ensures (ap length c.new-left.ensures)
-    c.in-Ok.ensures.went refl refl
+    c.in-Ok.ensures.went c.in-Ok.ensures.so refl refl

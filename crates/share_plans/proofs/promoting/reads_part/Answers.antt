@@ -21,5 +21,5 @@ returns-in-Ok-clause-went g c =
     (part_read c.args.world.now c.fetch-came.new.world (subst Consistent c.locks-2.ensures c.geometry-geometry.ensures.consistent)
     c.args.core.now c.args.block c.requires.stands c.in-Ok.kept
     (subst (λ (p : ℕ). Fetched c.args.core.now.host c.args.world.now c.fetch-came.new.world (tables.Part p) c.in-Ok.kept) part_is
-    c.in-Ok.ensures.went)
+    c.in-Ok.ensures.went) c.in-Ok.ensures.so
     c.first_empty-empty.result c.first_empty-empty.ensures.some c.first_empty-empty.ensures.none)

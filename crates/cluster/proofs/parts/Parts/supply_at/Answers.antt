@@ -1,7 +1,7 @@
 use Rattle.std.proofs.Common.{ap, is_some, sym, ◌∙◌}
 use Rattle.cluster.specs.laws.PartsLaws.{line_below, line_within}
 use Rattle.cluster.specs.laws.SoonerLaws.{begun_turns, unasked_turns}
-use Rattle.cluster.specs.laws.SupplyLaws.{begun_sound, begun_standing, begun_supplied, is_some_of, none_of, unasked_supplied}
+use Rattle.cluster.specs.laws.SupplyLaws.{begun_sound, begun_standing, begun_supplied, is_some_of, may_take, none_of, unasked_supplied}
 use Rattle.cluster.proofs.parts.Parts.supply_at.Goals as goal
 
 pub command-command-requires : goal.command-command-requires
@@ -9,6 +9,12 @@ command-command-requires g c = line_within c.args.self.now c.args.host c.require
 
 pub asked-requires-clause-host : goal.asked-requires-clause-host
 asked-requires-clause-host g c = line_below c.args.self.now c.args.host c.requires.sound c.args.position c.requires.at
+
+pub hand_in-requires-clause-may : goal.hand_in-requires-clause-may
+hand_in-requires-clause-may g c =
+    may_take c.args.self.now c.args.host c.args.position c.requires.sound c.requires.standing c.requires.steady c.requires.at
+    c.command-command.result c.command-command.ensures c.args.digest
+    (is_some_of _ (ap is_some (sym c.asked.ensures) ∙ sym c.is_some.ensures ∙ c.if-is_some.true))
 
 pub returns-then-is_some-clause-supplied : goal.returns-then-is_some-clause-supplied
 returns-then-is_some-clause-supplied g c =

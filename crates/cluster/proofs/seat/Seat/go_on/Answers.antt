@@ -10,7 +10,7 @@ returns-then-counts_last-clause-made g c =
     let stands = rw moved.was at c.requires.stands in
     dies c.args.command.now c.args.host c.args.world.now c.step.new.world c.step.new.cache c.args.self.now c.step.new.self c.in_ok-step.step
     c.requires.known c.in_ok-step.ensures.stepped c.drop_host.new.world c.drop_host.new.cache c.drop_host.new.self
-    (c.step.ensures.leaves.volume ∙ plan_volume c.args.world.now c.args.cache.now c.args.host c.args.self.now.watch moved.before stands.1
+    (c.step.ensures.leaves.volume ∙ plan_volume c.args.world.now c.args.cache.now c.args.host c.args.self.now.carried moved.before stands.1
     ∙ sym c.step.ensures.others.locks.lasts.geometry)
     (sym c.counts_last.ensures.last ∙ c.if-counts_last.true) c.drop_host.ensures
 

@@ -1,0 +1,5 @@
+pub mod Parts
+pub mod Rooms
+pub mod Tallies
+pub mod Handlings
+pub mod Changes

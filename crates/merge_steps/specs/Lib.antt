@@ -1,0 +1,4 @@
+pub mod Logs
+pub mod Steps
+pub mod Sweeps
+pub mod laws

@@ -1,0 +1,3 @@
+pub mod CallLaws
+pub mod EndLaws
+pub mod LogLaws

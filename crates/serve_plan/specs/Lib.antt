@@ -1,0 +1,5 @@
+pub mod Files
+pub mod Plans
+pub mod Requests
+pub mod Steps
+pub mod laws

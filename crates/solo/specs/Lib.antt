@@ -1,0 +1,10 @@
+pub mod Alone
+pub mod Commands
+pub mod Leaves
+pub mod Reads
+pub mod Settlings
+pub mod Shares
+pub mod Starts
+pub mod Stops
+pub mod Views
+pub mod laws

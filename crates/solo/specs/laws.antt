@@ -1,0 +1,16 @@
+pub mod AloneLaws
+pub mod BeganLaws
+pub mod BeginLaws
+pub mod CloseLaws
+pub mod ComesLaws
+pub mod HoldLaws
+pub mod LeaveLaws
+pub mod LoneLaws
+pub mod NotableLaws
+pub mod OpenLaws
+pub mod OwnCalls
+pub mod ReadLaws
+pub mod SettlingLaws
+pub mod ShareLaws
+pub mod StartLaws
+pub mod TakeLaws
