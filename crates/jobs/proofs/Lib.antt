@@ -8,6 +8,7 @@ mod GenLaws
 mod ReadingLaws
 mod RunEnds
 mod RunLaws
+mod SettleLaws
 mod SimLaws
 mod TellingLaws
 mod ThreadLaws

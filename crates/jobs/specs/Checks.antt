@@ -92,6 +92,24 @@ CheckDecides old new outcomes.ReadFault = ⊥
 CheckDecides old new outcomes.Memory = Unit {0}
 CheckDecides old new (outcomes.Geometry given found) = ⊥
 
+-- the counter is at its end
+pub record IsAtLast (s : State) (counter : ℕ) : Type 0 where
+  pub last : counter ≡ last_counter
+  pub met : s.counter ≡ last_counter
+
+-- why a check refuses a volume at once, and what it decides of one that it does not find valid
+abbrev pub JudgeRefuses : State → State → VolumeNo → Type 0
+JudgeRefuses old new (refusals.Faults faults) = FindsFaults old new faults.items
+JudgeRefuses old new refusals.Blank = FindsBlank old new
+JudgeRefuses old new (refusals.NoKeys counter) = IsAtLast old counter
+JudgeRefuses old new refusal = ⊥
+
+abbrev pub JudgeDecides : DiskSeen → DiskSeen → Outcome → Type 0
+JudgeDecides old new (outcomes.Volume refusal) = JudgeRefuses old.state new.state refusal
+JudgeDecides old new outcomes.DiskFault = Rose old.faults new.faults
+JudgeDecides old new outcomes.Memory = Unit {0}
+JudgeDecides old new outcome = ⊥
+
 -- a survey of a valid volume found its usage
 pub record FindsUsage (old new : State) (report : List ℕ) : Type 0 where
   pub used : ReportsUsage old report
@@ -103,11 +121,6 @@ pub record FindsBad (expected : Option Geometry) (old new : State) (place : ℕ)
   pub untold : IsNone old.told
   pub read : IsReadPlace expected old.blocks place
   pub left : new ≡ after_visit old
-
--- the counter is at its end
-pub record IsAtLast (s : State) (counter : ℕ) : Type 0 where
-  pub last : counter ≡ last_counter
-  pub met : s.counter ≡ last_counter
 
 -- why a survey of a valid volume refuses it
 abbrev pub SurveyRefuses : State → State → VolumeNo → Type 0

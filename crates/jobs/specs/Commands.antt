@@ -7,13 +7,14 @@ use Rattle.jobs.specs.declared.outcome.Outcome.TheVariants as outcomes
 use Rattle.jobs.specs.declared.status.Status.{Status}
 use Rattle.jobs.specs.declared.status.Status.TheVariants as statuses
 use Rattle.jobs.specs.declared.words.Job.{Job}
-use Rattle.jobs.specs.declared.words.Job.TheVariants.{Sim, Run, Check, Gen}
+use Rattle.jobs.specs.declared.words.Job.TheVariants.{Sim, Run, Check, Settle, Gen}
 use Rattle.jobs.specs.Checks.{AreVisits, CheckDecides, IsCheckStatus, IsReady, PrintsRefusal, PrintsValid}
 use Rattle.jobs.specs.Endings.{Ends, HasFailed, IsSmooth, IsTold, SinkSeen}
 use Rattle.jobs.specs.Generations.{GenEnds}
 use Rattle.jobs.specs.Outcomes.{outcome_text}
 use Rattle.jobs.specs.Runs.{ByThreads, ByWords}
 use Rattle.jobs.specs.Seen.{Seen}
+use Rattle.jobs.specs.Settlings.{SettleEnds}
 use Rattle.jobs.specs.Simulations.{SimEnds}
 use Rattle.jobs.specs.Words.{hosts_of, job_of}
 
@@ -39,6 +40,11 @@ pub record CheckEnds (old new : DiskSeen) (before after : SinkSeen) (status : St
 pub record ChecksAlone (before after : Seen) (status : Status) : Type 0 where
   pub source : after.source ≡ before.source
   pub check : CheckEnds before.disk after.disk before.sink after.sink status
+
+-- words that ask for a volume to be settled: the source is untouched
+pub record SettlesAlone (before after : Seen) (status : Status) : Type 0 where
+  pub source : after.source ≡ before.source
+  pub settle : SettleEnds before.disk after.disk before.sink after.sink status
 
 -- words that ask for a generated workload: source and device are untouched
 pub record Generates (rounds : ℕ) (before after : Seen) (status : Status) : Type 0 where
@@ -73,6 +79,7 @@ JobEnds None hosts = UsageEnds
 JobEnds (Some Sim) hosts = SimEnds (ByWords hosts)
 JobEnds (Some Run) hosts = UsageEnds
 JobEnds (Some Check) hosts = ChecksAlone
+JobEnds (Some Settle) hosts = SettlesAlone
 JobEnds (Some (Gen rounds)) hosts = Generates rounds
 
 -- by the words behind its name

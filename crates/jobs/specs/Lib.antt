@@ -8,6 +8,7 @@ pub mod Outcomes
 pub mod Readings
 pub mod Runs
 pub mod Seen
+pub mod Settlings
 pub mod Simulations
 pub mod Sources
 pub mod Statuses

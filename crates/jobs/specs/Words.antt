@@ -4,7 +4,7 @@ use Rattle.std.specs.List.{list_all}
 use Rattle.std.specs.Option.{option_map}
 use Rattle.std.specs.Str.{bytes_eq}
 use Rattle.jobs.specs.declared.words.Job.{Job}
-use Rattle.jobs.specs.declared.words.Job.TheVariants.{Sim, Run, Check, Gen}
+use Rattle.jobs.specs.declared.words.Job.TheVariants.{Sim, Run, Check, Settle, Gen}
 
 -- a word is not empty, and does not begin with `-`
 abbrev pub is_plain : List ℕ → Bool
@@ -52,7 +52,8 @@ job_named word rest =
     if bytes_eq word (codes "sim") && is_schedule rest then Some Sim
     else (if bytes_eq word (codes "run") && length rest == 0 then Some Run
     else (if bytes_eq word (codes "check") && length rest == 0 then Some Check
-    else (if bytes_eq word (codes "gen") then generation_of rest else None)))
+    else (if bytes_eq word (codes "settle") && length rest == 0 then Some Settle
+    else (if bytes_eq word (codes "gen") then generation_of rest else None))))
 
 -- the job of the words behind the program's name: a volume, the name of a job, and the words of a schedule or of a number
 abbrev pub job_of : List (List ℕ) → Option Job

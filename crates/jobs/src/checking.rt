@@ -1,10 +1,10 @@
 // The job that checks a volume.
-ghost use Rattle.std.specs.Prelude.{◌≡◌, IfOk, IfSome};
+ghost use Rattle.std.specs.Prelude.{◌≡◌, ◌≤◌, IfOk, IfSome, IsNone};
 ghost use Rattle.image_view.specs.Valid.{IsVolume};
-ghost use Rattle.shared_disk.specs.Visits.{IsVisiting};
+ghost use Rattle.shared_disk.specs.Visits.{IsVisiting, after_visit};
 ghost use Rattle.shared_disk.specs.Seen.{seen_by};
 ghost use Rattle.jobs.specs.Seen.{sink_by};
-ghost use Rattle.jobs.specs.Checks.{AreVisits, CheckDecides, SurveyDecides, valid_text};
+ghost use Rattle.jobs.specs.Checks.{AreVisits, CheckDecides, JudgeDecides, SurveyDecides, valid_text};
 ghost use Rattle.jobs.specs.Commands.{CheckEnds};
 
 use crate::outcome::{Outcome, VolumeNo};
@@ -40,17 +40,33 @@ fn decide<D: Device>(alloc: Global, disk: &mut D) -> Outcome
     ensures visits { AreVisits (D.state disk.old) (D.state disk.new) }
     ensures blocks { (D.state disk.new).blocks ≡ (D.state disk.old).blocks }
 {
+    match judge(alloc, disk) {
+        Some(outcome) => outcome,
+        None => decide_valid(alloc, disk),
+    }
+}
+
+/// What the check of a volume decides where it does not find it valid. It registers a key for host 0 and fences it.
+pub fn judge<D: Device>(alloc: Global, disk: &mut D) -> Option<Outcome>
+    ensures refused { IfSome result (JudgeDecides (seen_by D.Device disk.old) (seen_by D.Device disk.new)) }
+    ensures valid { IsNone result → IfSome (D.state disk.new).told (λ told. IsVolume (D.state disk.new).counter told.image) }
+    ensures left { IsNone result → D.state disk.new ≡ after_visit (D.state disk.old) }
+    ensures told { (D.state disk.new).told ≡ (D.state disk.old).told }
+    ensures visiting { IsVisiting (D.state disk.old) (D.state disk.new) }
+    ensures blocks { (D.state disk.new).blocks ≡ (D.state disk.old).blocks }
+    ensures later { D.faults disk.old ≤ D.faults disk.new }
+{
     let faults = match volume_check::check(alloc, disk) {
         Ok(faults) => faults,
-        Err(CheckNo::Blank) => return Outcome::Volume(VolumeNo::Blank),
-        Err(CheckNo::Failed) => return Outcome::DiskFault,
-        Err(CheckNo::NoKeys) => return Outcome::Volume(VolumeNo::NoKeys(LAST_COUNTER)),
-        Err(CheckNo::NoMemory) => return Outcome::Memory,
+        Err(CheckNo::Blank) => return Some(Outcome::Volume(VolumeNo::Blank)),
+        Err(CheckNo::Failed) => return Some(Outcome::DiskFault),
+        Err(CheckNo::NoKeys) => return Some(Outcome::Volume(VolumeNo::NoKeys(LAST_COUNTER))),
+        Err(CheckNo::NoMemory) => return Some(Outcome::Memory),
     };
     if faults.is_empty() {
-        decide_valid(alloc, disk)
+        None
     } else {
-        Outcome::Volume(VolumeNo::Faults(faults))
+        Some(Outcome::Volume(VolumeNo::Faults(faults)))
     }
 }
 

@@ -7,6 +7,7 @@ ghost use Rattle.jobs.specs.Seen.{sink_by, source_by, seen};
 use crate::checking::check;
 use crate::generating::generate;
 use crate::outcome::Outcome;
+use crate::settling::settle;
 use crate::simulating::sim;
 use crate::status::Status;
 use crate::telling::tell;
@@ -32,6 +33,7 @@ pub fn command<S: Source, K: Sink, D: Device>(
     match job_of(words) {
         Some(Job::Sim) => sim(alloc, words, source, sink, disk),
         Some(Job::Check) => check(alloc, sink, disk),
+        Some(Job::Settle) => settle(alloc, sink, disk),
         Some(Job::Gen(rounds)) => (generate(alloc, sink, rounds), disk),
         // This call has no threads.
         Some(Job::Run) => (tell(alloc, sink, Outcome::Usage), disk),

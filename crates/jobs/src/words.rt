@@ -15,6 +15,8 @@ pub enum Job {
     Run,
     /// Checks the volume.
     Check,
+    /// Makes all equal live blocks of the volume share one data block.
+    Settle,
     /// Writes the generated workload of so many rounds, from 1 to 100.
     Gen(u32),
 }
@@ -22,7 +24,7 @@ pub enum Job {
 // The most words of a schedule.
 const MOST_HOSTS: usize = 65_536;
 
-/// The job of the words behind the program's name: `VOLUME sim HOST..`, `VOLUME run`, `VOLUME check` or `VOLUME gen N`, where
+/// The job of the words behind the program's name: `VOLUME sim HOST..`, `VOLUME run`, `VOLUME check`, `VOLUME settle` or `VOLUME gen N`, where
 /// VOLUME is not empty and does not begin with `-`, each HOST is a number from `0` to `15`, and N one from `1` to `100`. For any
 /// other words it answers `None`.
 pub fn job_of(words: &[String]) -> Option<Job>
@@ -74,6 +76,8 @@ fn job_named(name: &str, rest: &[String]) -> Option<Job>
         Some(Job::Run)
     } else if name == "check" && rest.is_empty() {
         Some(Job::Check)
+    } else if name == "settle" && rest.is_empty() {
+        Some(Job::Settle)
     } else if name == "gen" {
         generation_of(rest)
     } else {

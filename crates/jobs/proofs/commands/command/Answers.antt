@@ -1,5 +1,5 @@
 use Rattle.std.proofs.Common.{Some, None, ap, map, refl, string_bytes, sym, ◌∙◌}
-use Rattle.jobs.specs.declared.words.Job.TheVariants.{Sim, Run, Check, Gen}
+use Rattle.jobs.specs.declared.words.Job.TheVariants.{Sim, Run, Check, Settle, Gen}
 use Rattle.jobs.specs.Words.{hosts_of, job_of}
 use Rattle.jobs.proofs.CommandLaws.{command_ends, usage_ends}
 use Rattle.jobs.proofs.commands.command.Goals as goal
@@ -18,6 +18,14 @@ returns-in-Some-Check g c = record {
       let words = map string_bytes c.args.words.now in
       command_ends (job_of words) (Some Check) (hosts_of words) _ _ _ (sym c.job_of.ensures.job ∙ c.in-Some-Check.is ∙ ap Some c.in-Some-Check.field-0-is)
       (record { source = refl; check = c.check.ensures.ends });
+}
+
+pub returns-in-Some-Settle : goal.returns-in-Some-Settle
+returns-in-Some-Settle g c = record {
+  ends =
+      let words = map string_bytes c.args.words.now in
+      command_ends (job_of words) (Some Settle) (hosts_of words) _ _ _ (sym c.job_of.ensures.job ∙ c.in-Some-Settle.is ∙ ap Some c.in-Some-Settle.field-0-is)
+      (record { source = refl; settle = c.settle.ensures.ends });
 }
 
 pub returns-in-Some-Gen : goal.returns-in-Some-Gen
