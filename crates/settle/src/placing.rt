@@ -77,16 +77,19 @@ fn settle_block<L: Lone>(
     match seek(lone, geometry, found, digest, spot) {
         Ok(Sought::Joined) => Ok(true),
         Ok(Sought::Hole) => Ok(false),
-        Ok(Sought::Fresh(number)) => settle_fresh(lone, geometry, found, number, spot, block),
+        Ok(Sought::Fresh(number)) => settle_fresh(
+            lone, geometry, found, digest, number, spot, block,
+        ),
         Err(why) => Err(why),
     }
 }
 
-// Settles a place that no representative of its block's digest is equal to: where it is no hole, it is one itself, under this number.
+// Settles a place that no representative of this digest, its block's, is equal to: where it is no hole, it is one itself, under this number.
 fn settle_fresh<L: Lone>(
     lone: &mut L,
     geometry: Geometry,
     found: &mut Candidates,
+    digest: Digest,
     number: u32,
     spot: Spot,
     block: &Block,
@@ -94,6 +97,7 @@ fn settle_fresh<L: Lone>(
     requires volume { L.volume lone.old ≡ geometry }
     requires pointer { HasField geometry (Field.Pointer spot.file spot.index) }
     requires table { IsTable geometry (spot_at found.old.spots) }
+    requires digest { digest ≡ digest_of block.now }
     requires free { IsNext (spot_at found.old.spots) (digest_of block.now) number }
     requires next { IfSome (L.told lone.old) (λ t. IsNextBlock geometry t.image (spot_at found.old.spots) spot.file spot.index block.now) }
     requires apart { IfSome (L.told lone.old) (λ t. IsApart geometry t.image (spot_at found.old.spots) spot.file spot.index (digest_of block.now) number) }
@@ -106,7 +110,6 @@ fn settle_fresh<L: Lone>(
     ensures count { L.answered lone.new ≤ L.answered lone.old + 18 }
     ensures stopped { IfErr result (IsRefused (L.stopped lone.new)) }
 {
-    let digest = digest_of(block);
     match is_hole(lone, geometry, spot, block) {
         Ok(true) => return Ok(false),
         Ok(false) => {}

@@ -16,11 +16,11 @@ pub returns-in-Ok-clause-placed : goal.returns-in-Ok-clause-placed
 returns-in-Ok-clause-placed g c =
     told-fresh c.args.geometry (g.L.Lone.told c.args.lone.now) (g.L.Lone.told c.is_hole.new.lone) (spot_at c.args.found.now.spots) (spot_at c.add.new.self.spots)
     c.args.number c.args.spot c.args.block.now c.in-Ok-false.field-0 c.requires.pointer c.requires.table c.requires.free
-    (subst (λ (x : Digest). Adds (spot_at c.args.found.now.spots) (spot_at c.add.new.self.spots) x c.args.number c.args.spot) c.digest_of-digest.ensures c.in-Ok.ensures.added)
+    (subst (λ (x : Digest). Adds (spot_at c.args.found.now.spots) (spot_at c.add.new.self.spots) x c.args.number c.args.spot) c.requires.digest c.in-Ok.ensures.added)
     c.requires.next c.requires.apart c.in-Ok-false.ensures.moves c.in-Ok-false.ensures.hole c.in-Ok-false.field-0-test
 
 pub returns-in-Ok-clause-table : goal.returns-in-Ok-clause-table
 returns-in-Ok-clause-table g c =
-    table-more c.args.geometry (spot_at c.args.found.now.spots) (spot_at c.add.new.self.spots) c.digest_of-digest.result c.args.number c.args.spot c.requires.table
-    (subst (λ (x : Digest). IsNext (spot_at c.args.found.now.spots) x c.args.number) (sym c.digest_of-digest.ensures) c.requires.free)
+    table-more c.args.geometry (spot_at c.args.found.now.spots) (spot_at c.add.new.self.spots) c.args.digest c.args.number c.args.spot c.requires.table
+    (subst (λ (x : Digest). IsNext (spot_at c.args.found.now.spots) x c.args.number) (sym c.requires.digest) c.requires.free)
     c.requires.pointer c.in-Ok.ensures.added
