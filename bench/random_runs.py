@@ -6,8 +6,8 @@ Usage: bench/random_runs.py [PROGRAM [RUNS [FIRST]]]
 Build the program first: `examples/two_hosts.sh` leaves it as crates/dede/out/dede. Each run has a fresh volume file, and its workload is made
 from its number alone, from FIRST on (1 if none is given). A report is right where each line has an answer; the history has each file command
 that was answered once, and each that was cut at most once, those of one host in order and phase by phase; each answer is the plain reply at
-its place in the history; no more blocks are used than mapped; and `check` then writes `valid` with the same usage. It prints how often each
-answer came.
+its place in the history; no more blocks are used than mapped, and no fewer than the files have contents; and `check` then writes `valid` with the
+same usage. It prints how often each answer came.
 """
 import collections
 import os
@@ -20,12 +20,14 @@ import tempfile
 FILE_COMMANDS = ("create", "size", "write", "read", "punch", "remove")
 CHANGES = ("create", "create", "size", "size", "write", "write", "write", "read", "read", "punch", "remove")
 OTHERS = ("close", "close", "close", "beat", "leave", "join", "look", "look", "recover", "die")
+HINTS = ("log", "log", "log", "scan", "merge", "merge", "serve", "collect")
 MOST_BLOCKS = 1008
 
 
 def command(draw, hosts, files, host):
     """One command of a host."""
-    name = draw.choice(CHANGES if draw.random() < 0.85 else OTHERS)
+    chance = draw.random()
+    name = draw.choice(CHANGES if chance < 0.7 else HINTS if chance < 0.87 else OTHERS)
     file = host % files if draw.random() < 0.75 else draw.randrange(files)
     index = draw.randrange(4)
     other = draw.choice([h for h in range(hosts) if h != host] or [None])
@@ -35,8 +37,10 @@ def command(draw, hosts, files, host):
         return f"size {file} {draw.choice((0, 1, 2, 3, 4, 1008, 1009))}"
     if name == "write":
         return f"write {file} {index} {draw.randrange(10)}"
-    if name in ("read", "punch"):
+    if name in ("read", "punch", "scan"):
         return f"{name} {file} {index}"
+    if name == "collect":
+        return "collect 0"
     if name in ("look", "recover"):
         return "beat" if other is None else f"{name} {other}"
     if name == "die":
@@ -128,9 +132,9 @@ def fault(lines, report):
         if words[0] in FILE_COMMANDS and not idle and at not in entries:
             return f"line {at} is missing in the history", answers
     used, mapped = map(int, re.fullmatch(r"used (\d+) mapped (\d+)", usage).groups())
-    held = sum(block is not None for blocks in files.values() for block in blocks)
-    if not held <= used <= mapped:
-        return f"the usage: {held} blocks are held", answers
+    held = [block for blocks in files.values() for block in blocks if block is not None]
+    if not len(set(held)) <= used <= mapped or len(held) > mapped:
+        return f"the usage: {len(held)} places have blocks, of {len(set(held))} contents", answers
     return None, answers
 
 

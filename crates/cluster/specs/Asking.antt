@@ -8,8 +8,10 @@ use Rattle.hint_plans.specs.declared.plan.Doing.{Doing}
 use Rattle.hint_plans.specs.declared.plan.Doing.TheVariants.{Asks, AsksBlock}
 use Rattle.host_runs.specs.Awaited.{first_block}
 use Rattle.host_runs.specs.FileUses.{is_hint_place}
+use Rattle.merge_plan.specs.declared.plan.Doing as merges
+use Rattle.merge_plan.specs.declared.plan.Doing.TheVariants as merge_doings
 use Rattle.cluster.specs.declared.plan.Plan.{Plan}
-use Rattle.cluster.specs.declared.plan.Plan.TheVariants.{Collects, Files, Hints, Slots}
+use Rattle.cluster.specs.declared.plan.Plan.TheVariants.{Hints, Merges}
 
 -- a command on hints: that of a `scribble` before its first step, or one that a `scan` has read
 abbrev pub doing_asks : Geometry → Doing → Option Block
@@ -17,11 +19,15 @@ doing_asks g (Asks s) = if is_hint_place g s.place then Some (number_block s.num
 doing_asks g (AsksBlock s block) = Some block
 doing_asks g doing = None
 
+-- a merge that has read what stands at the place of an entry
+abbrev pub merge_asks : merges.Doing → Option Block
+merge_asks (merge_doings.Asks shelf block) = Some block
+merge_asks doing = None
+
 abbrev pub plan_asks : Geometry → Plan → Option Block
-plan_asks g (Files plan) = None
-plan_asks g (Slots plan) = None
-plan_asks g (Collects plan) = None
 plan_asks g (Hints plan) = doing_asks g plan.doing
+plan_asks g (Merges plan) = merge_asks plan.doing
+plan_asks g plan = None
 
 -- by the plan of the command under way; or where none is, and the host is joined, by the command that it is to begin
 abbrev pub asked_with : Geometry → Option Plan → Bool → Command → Option Block

@@ -21,9 +21,11 @@ use Rattle.watch.specs.Looks.{nothing}
 use Rattle.watch.specs.declared.watch.Look.{Look}
 use Rattle.cluster.specs.declared.carried.Carried.{Carried}
 
--- of a host that has not begun
-abbrev pub fresh : Geometry → Carried
-fresh g = record { watch = nothing; pending = record { geometry = g; entries = [] }; digest = None }
+-- of a host that has not begun; the room of its merges may have anything
+pub record IsFresh (g : Geometry) (carried : Carried) : Type 0 where
+  pub watch : carried.watch ≡ nothing
+  pub pending : carried.pending ≡ record { geometry = g; entries = [] }
+  pub digest : carried.digest ≡ None
 
 -- what is remembered of slots is right, and the pending hints are of the volume
 pub record IsCarried (v : WorldView) (h : ℕ) (carried : Carried) : Type 0 where

@@ -7,14 +7,14 @@ use Rattle.vol_base.specs.declared.command.Command.TheVariants as commands
 use Rattle.held_cache.specs.Kept.{Cache, ForgetsHost}
 use Rattle.host_facts.specs.Views.{WorldView}
 use Rattle.recover_plan.specs.Joins.{IsDropped}
-use Rattle.cluster.specs.Views.{resting}
+use Rattle.cluster.specs.Views.{IsFirstSeat}
 use Rattle.cluster.specs.declared.seat.Seat.{Seat}
 
 -- the host has no key and holds nothing in memory; nothing is kept for it, and it remembers no slot, no hint and no death
 pub record IsDroppedIn (h : ℕ) (v w : WorldView) (c d : Cache) (seat : Seat) : Type 0 where
   pub world : IsDropped h v w
   pub cache : ForgetsHost c d h
-  pub is : seat ≡ resting v.locks.geometry
+  pub first : IsFirstSeat v.locks.geometry seat
 
 -- a command was answered without a plan: a host that is to die at once is dropped, and one that is to die later knows when; no other
 -- answer changes anything

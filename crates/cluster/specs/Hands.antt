@@ -7,18 +7,19 @@ use Rattle.vol_layout.specs.declared.geometry.Geometry.{Geometry}
 use Rattle.file_plans.specs.declared.stage.Stage.TheVariants.{Asks, Begins}
 use Rattle.hint_plans.specs.Nexts.{MaySupply, pending_behind, supplied}
 use Rattle.hint_plans.specs.Plans as hints
+use Rattle.merge_plan.specs.Plans as merges
 use Rattle.cluster.specs.Plans.{IsBegun}
 use Rattle.cluster.specs.declared.carried.Carried.{Carried}
 use Rattle.cluster.specs.declared.plan.Plan.{Plan}
-use Rattle.cluster.specs.declared.plan.Plan.TheVariants.{Collects, Files, Hints, Slots}
+use Rattle.cluster.specs.declared.plan.Plan.TheVariants.{Files, Hints, Merges}
 use Rattle.cluster.specs.declared.seat.Seat.{Seat}
 
 -- a plan that waits for a digest, and whose pending hint may be made
 abbrev pub IsAsking : Plan → Type 0
 IsAsking (Files plan) = plan.stage ≡ Asks
-IsAsking (Slots plan) = ⊥
-IsAsking (Collects plan) = ⊥
 IsAsking (Hints plan) = hints.IsAsking plan.doing
+IsAsking (Merges plan) = merges.IsAsking plan.doing
+IsAsking plan = ⊥
 
 abbrev pub MayTake : Geometry → Plan → Type 0
 MayTake g (Hints plan) = MaySupply g plan.doing
@@ -31,6 +32,8 @@ IsSuppliedIn digest old new (Files plan) (Files later) =
 IsSuppliedIn digest old new (Hints plan) (Hints later) =
     (later.host ≡ plan.host) × (later.doing ≡ supplied digest plan.doing)
     × (new ≡ record old { pending = pending_behind digest plan.doing old.pending })
+IsSuppliedIn digest old new (Merges plan) (Merges later) =
+    (later.host ≡ plan.host) × (later.doing ≡ merges.supplied digest plan.doing) × (new ≡ old)
 IsSuppliedIn digest old new plan later = ⊥
 
 -- a command that asks for a digest before its first call

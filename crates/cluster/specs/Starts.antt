@@ -1,5 +1,5 @@
 -- The beginning of a cluster.
-use Rattle.std.specs.Prelude.{◌≡◌, ◌≢◌, ◌⊎◌, ◌<◌, ◌≤◌, ◌*◌, ◌^◌, ℕ, List, [], None, Option, false, length, replicate, slice_index_or}
+use Rattle.std.specs.Prelude.{All, ◌≡◌, ◌≢◌, ◌⊎◌, ◌<◌, ◌≤◌, ◌*◌, ◌^◌, ℕ, List, [], None, Option, false, length, replicate, slice_index_or}
 use Rattle.vol_base.specs.Faults.{Rose}
 use Rattle.vol_layout.specs.Regions.{total}
 use Rattle.vol_layout.specs.declared.geometry.Geometry.{Geometry}
@@ -18,7 +18,7 @@ use Rattle.volume_opening.specs.declared.open_no.OpenNo.TheVariants as refusals
 use Rattle.cluster.specs.Parts.{IsOpenFrom}
 use Rattle.cluster.specs.Runs.{Facts, Led}
 use Rattle.cluster.specs.LinesLeft.{lines_left}
-use Rattle.cluster.specs.Views.{BudgetView, ClusterView, LedgerView, PartsView, disk_of, resting}
+use Rattle.cluster.specs.Views.{BudgetView, ClusterView, LedgerView, PartsView, IsFirstSeat, disk_of}
 use Rattle.cluster.specs.declared.starting.Room.{Room}
 
 -- each host is at its first line
@@ -36,7 +36,8 @@ pub record IsRoomFor (w : Workload) (room : Room) : Type 0 where
   pub volume : room.cache.volume ≡ w.geometry
   pub nothing : (host : ℕ) (which : Table) → kept_at room.cache host which ≡ None
   pub heads : AreFirst w.lines w.geometry.hosts room.heads.items
-  pub seats : room.seats.items ≡ replicate w.geometry.hosts (resting w.geometry)
+  pub hosts : length room.seats.items ≡ w.geometry.hosts
+  pub seats : All (IsFirstSeat w.geometry) room.seats.items
   pub budget : room.budget ≡ record { used = replicate w.geometry.hosts 0; left = 0 }
 
 -- the parts and the cluster before the first turn

@@ -1,7 +1,8 @@
 -- What a contract sees of the cluster.
-use Rattle.std.specs.Prelude.{ℕ, Bool, List, None, Option, slice_index_or}
+use Rattle.std.specs.Prelude.{◌≡◌, ℕ, Bool, List, [], None, Option, slice_index_or}
 use Rattle.std.specs.Option.{option_map_or}
 use Rattle.vol_base.specs.declared.answer.Answer.{Answer}
+use Rattle.vol_base.specs.declared.answer.MergeCounts.{MergeCounts}
 use Rattle.vol_base.specs.declared.command.Command.{Command}
 use Rattle.vol_base.specs.declared.command.Command.TheVariants.{Beat}
 use Rattle.plain_files.specs.declared.history.Placed.{Placed}
@@ -14,7 +15,9 @@ use Rattle.host_runs.specs.NextLines.{line_at, next_line}
 use Rattle.host_runs.specs.Notes.{Notes}
 use Rattle.host_runs.specs.RunStates.{RunEvent, RunState}
 use Rattle.vol_layout.specs.declared.geometry.Geometry.{Geometry}
-use Rattle.cluster.specs.Carries.{fresh}
+use Rattle.merge_plan.specs.declared.room.MergeRoom.{MergeRoom}
+use Rattle.watch.specs.Looks.{nothing}
+use Rattle.cluster.specs.Carries.{IsFresh}
 use Rattle.cluster.specs.declared.seat.Seat.{Seat}
 
 -- what came to be known: the answers by position, the history, and its entries and the answers in the order in which they came
@@ -46,12 +49,36 @@ pub record ClusterView : Type 0 where
   pub parts : PartsView
   pub budget : BudgetView
 
--- the seat of a host that has not begun, that of any host, and the position of its first command without an answer
-abbrev pub resting : Geometry → Seat
-resting g = record { plan = None; carried = fresh g; left = None }
+-- the seat of a host that has not begun
+pub record IsFirstSeat (g : Geometry) (seat : Seat) : Type 0 where
+  pub plan : seat.plan ≡ None
+  pub carried : IsFresh g seat.carried
+  pub left : seat.left ≡ None
 
+-- one of no host, for the numbers behind the last one's
+abbrev pub no_counts : MergeCounts
+no_counts = record { stale = 0; unique = 0; linked = 0; already = 0; differs = 0; gone = 0; posted = 0; full = 0; skipped = 0 }
+
+abbrev pub no_room : Geometry → MergeRoom
+no_room g =
+    record {
+      logs = [];
+      filled = [];
+      read = [];
+      sweep = record { at = 0; counts = no_counts; shelf = record { geometry = g; blocks = 0; entries = [] } };
+    }
+
+abbrev pub no_seat : Geometry → Seat
+no_seat g =
+    record {
+      plan = None;
+      carried = record { watch = nothing; pending = record { geometry = g; entries = [] }; digest = None; room = no_room g };
+      left = None;
+    }
+
+-- the seat of a host, and the position of its first command without an answer
 abbrev pub seat_at : PartsView → ℕ → Seat
-seat_at v h = slice_index_or v.seats h (resting v.workload.geometry)
+seat_at v h = slice_index_or v.seats h (no_seat v.workload.geometry)
 
 abbrev pub head_at : PartsView → ℕ → Option ℕ
 head_at v h = slice_index_or v.heads h None

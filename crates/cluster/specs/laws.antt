@@ -8,6 +8,7 @@ pub mod BegunTurns
 pub mod BudgetLaws
 pub mod CollectSteps
 pub mod FileSteps
+pub mod FreshLaws
 pub mod HandLaws
 pub mod HintSteps
 pub mod InvLaws
@@ -15,6 +16,7 @@ pub mod LinesLeftLaws
 pub mod ListLaws
 pub mod MarkLaws
 pub mod MeasureLaws
+pub mod MergeSteps
 pub mod OpenLaws
 pub mod OpenedLaws
 pub mod PartsLaws
@@ -23,6 +25,7 @@ pub mod PhaseLaws
 pub mod PlanTurnLaws
 pub mod RoomLaws
 pub mod SeatedSoundLaws
+pub mod ServeSteps
 pub mod SlotSteps
 pub mod SoonerLaws
 pub mod SoundLaws

@@ -1,13 +1,14 @@
 // The block whose digest a host waits for.
 ghost use Rattle.std.specs.Prelude.{◌≡◌, None, Some, if◌then◌else◌};
 ghost use Rattle.vol_base.specs.NumberBlock.{number_block};
-ghost use Rattle.cluster.specs.Asking.{asked_with, doing_asks, plan_asks};
+ghost use Rattle.cluster.specs.Asking.{asked_with, doing_asks, merge_asks, plan_asks};
 ghost use Rattle.host_runs.specs.Awaited.{first_block};
 ghost use Rattle.host_runs.specs.FileUses.{is_hint_place};
 ghost use Rattle.vol_layout.specs.Ranges.{IsGeometry};
 
 use crate::plan::Plan;
 use hint_plans::Doing;
+use merge_plan::Doing as Merging;
 use vol_base::{Block, Command, number_block};
 use vol_layout::{Geometry, Kind};
 
@@ -35,7 +36,17 @@ fn plan_asks(geometry: &Geometry, plan: &Plan) -> Option<Block>
 {
     match plan {
         Plan::Hints(plan) => doing_asks(geometry, &plan.doing),
-        Plan::Files(_) | Plan::Slots(_) | Plan::Collects(_) => None,
+        Plan::Merges(plan) => merge_asks(&plan.doing),
+        Plan::Files(_) | Plan::Slots(_) | Plan::Collects(_) | Plan::Serves(_) => None,
+    }
+}
+
+fn merge_asks(doing: &Merging) -> Option<Block>
+    ensures { result ≡ merge_asks doing.now }
+{
+    match doing {
+        Merging::Asks(_, block) => Some(*block),
+        _ => None,
     }
 }
 

@@ -1,9 +1,11 @@
 // What a host keeps beside its plan.
-ghost use Rattle.std.specs.Prelude.{◌≡◌, Some};
-ghost use Rattle.cluster.specs.Carries.{MayNote, fresh, hints_behind, looks_behind, loses, written};
+ghost use Rattle.std.specs.Prelude.{◌≡◌, IfOk, Some};
+ghost use Rattle.cluster.specs.Carries.{IsFresh, MayNote, hints_behind, looks_behind, loses, written};
 ghost use Rattle.vol_layout.specs.Ranges.{IsGeometry};
 
 use hint_blocks::{Hints, LogEntry};
+use merge_plan::MergeRoom;
+use std::alloc::{AllocError, Global};
 use vol_base::{Answer, Command, Digest, Next, PlainReply};
 use vol_layout::Geometry;
 use watch::Watch;
@@ -17,19 +19,32 @@ pub struct Carried {
     pub pending: Hints<LogEntry>,
     /// The digest that was handed in to its last `write`.
     pub digest: Option<Digest>,
+    /// What its last merge read. No turn moves it, and each merge begins with clearing it.
+    pub room: MergeRoom,
 }
 
 impl Carried {
     /// That of a host that has not begun.
-    pub fn new(geometry: &Geometry) -> Carried
+    pub fn new(alloc: Global, geometry: &Geometry) -> Result<Carried, AllocError>
         requires { IsGeometry geometry.now }
-        ensures { result ≡ fresh geometry.now }
+        ensures { IfOk result (IsFresh geometry.now) }
     {
-        Carried {
+        Ok(Carried {
             watch: Watch::new(),
             pending: Hints::empty(geometry),
             digest: None,
-        }
+            room: MergeRoom::new(alloc, geometry)?,
+        })
+    }
+
+    /// A host that is dropped has it as one that has not begun.
+    pub fn forget(&mut self, geometry: &Geometry)
+        requires { IsGeometry geometry.now }
+        ensures { IsFresh geometry.now self.new }
+    {
+        self.watch = Watch::new();
+        self.pending = Hints::empty(geometry);
+        self.digest = None;
     }
 
     /// The pending hints behind a step of a command that is none on hints: one more behind a `write` that is done, and none behind an answer

@@ -6,13 +6,12 @@ ghost use Rattle.workload.specs.Workloads.{IsAllowed};
 use vol_base::Command;
 use workload::Line;
 
-/// Whether a cluster can run the line: not yet a `merge` or a `serve`.
+/// Whether a cluster can run the line: no host looks at itself or recovers itself.
 pub fn is_known(line: &Line) -> bool
     ensures { IsTrue result ↔ IsKnownLine line.now }
 {
     match line.command {
         Command::Look(of) | Command::Recover(of) => of != line.host,
-        Command::Merge | Command::Serve => false,
         _ => true,
     }
 }

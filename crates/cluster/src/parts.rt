@@ -223,7 +223,7 @@ impl<D: Device> Parts<D> {
         requires host { host < self.old.workload.geometry.hosts }
         requires may { MayStep self.old host command.now }
         ensures stepped { IfOk result (IsStepped self.old host command.now self.new) }
-        ensures sooner { IfOk result (λ done. GoesSooner self.old.world self.old.cache (seat_at self.old host).plan self.new.world self.new.cache (seat_at self.new host).plan done.ended) }
+        ensures sooner { IfOk result (λ done. GoesSooner self.old.world self.old.cache (seat_at self.old host) self.new.world self.new.cache (seat_at self.new host) done.ended) }
         ensures same { IfErr result (λ e. IsUnmoved self.old self.new) }
         ensures sound { IsSound self.new }
         ensures workload { self.new.workload ≡ self.old.workload }

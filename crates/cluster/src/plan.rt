@@ -16,8 +16,10 @@ use crate::carried::Carried;
 use file_plans::FilePlan;
 use held_cache::HeldCache;
 use hint_plans::HintPlan;
+use merge_plan::MergePlan;
 use meta_world::MetaWorld;
 use recover_plan::RecoverPlan;
+use serve_plan::ServePlan;
 use share_plans::CollectPlan;
 use shared_disk::Device;
 use vol_base::{Answer, Command, Digest, HostNo, Next, NoMemory, Step, plain_call};
@@ -33,6 +35,10 @@ pub enum Plan {
     Collects(CollectPlan),
     /// A command on hints.
     Hints(HintPlan),
+    /// The serving of requests.
+    Serves(ServePlan),
+    /// The merge of a host's own logs into the index.
+    Merges(MergePlan),
 }
 
 impl Plan {
@@ -41,18 +47,18 @@ impl Plan {
         requires { IsPlanned host command.now }
         ensures { IsBegun host command.now result }
     {
-        if let Command::Close(file) = *command {
-            return Plan::Files(FilePlan::close_file(host, file));
-        }
-        if let Command::Collect(part) = *command {
-            return Plan::Collects(CollectPlan::new(host, part));
-        }
-        if let Command::Log | Command::Scan(_, _) | Command::Scribble(_, _, _) = *command {
-            return Plan::Hints(HintPlan::new(host, command));
-        }
-        match plain_call(command) {
-            Some(call) => Plan::Files(FilePlan::new(host, &call)),
-            None => Plan::Slots(RecoverPlan::new(host, *command)),
+        match command {
+            Command::Close(file) => Plan::Files(FilePlan::close_file(host, *file)),
+            Command::Collect(part) => Plan::Collects(CollectPlan::new(host, *part)),
+            Command::Log | Command::Scan(_, _) | Command::Scribble(_, _, _) => {
+                Plan::Hints(HintPlan::new(host, command))
+            }
+            Command::Serve => Plan::Serves(ServePlan::new(host)),
+            Command::Merge => Plan::Merges(MergePlan::new(host)),
+            _ => match plain_call(command) {
+                Some(call) => Plan::Files(FilePlan::new(host, &call)),
+                None => Plan::Slots(RecoverPlan::new(host, *command)),
+            },
         }
     }
 
@@ -68,7 +74,8 @@ impl Plan {
                 carried.digest = Some(digest);
             }
             Plan::Hints(plan) => plan.supply(digest, &mut carried.pending),
-            Plan::Slots(_) | Plan::Collects(_) => {}
+            Plan::Merges(plan) => plan.supply(digest),
+            Plan::Slots(_) | Plan::Collects(_) | Plan::Serves(_) => {}
         }
     }
 
@@ -87,7 +94,7 @@ impl Plan {
         requires noted { (n : Notes) × PlanNoted command.now world.old host carried.old self.old n }
         requires unasked { plan_asks world.old.locks.geometry self.old ≡ None }
         ensures stepped { IfOk result (HasStepped command.now host world.old world.new cache.new carried.old carried.new self.old self.new) }
-        ensures sooner { IfOk result (λ step. IsSooner world.old cache.old self.old world.new cache.new self.new step.next) }
+        ensures sooner { IfOk result (λ step. IsSooner world.old cache.old carried.old self.old world.new cache.new carried.new self.new step.next) }
         ensures none { IfErr result (λ e. IsUntouched host world.old world.new) }
         ensures others { Others host world.old world.new }
         ensures leaves { LeavesOthers host cache.old cache.new }
@@ -97,6 +104,8 @@ impl Plan {
             Plan::Slots(plan) => step_on_slots(plan, command, world, cache, carried),
             Plan::Collects(plan) => step_of_collection(plan, command, world, cache, carried),
             Plan::Hints(plan) => step_on_hints(plan, command, world, cache, carried),
+            Plan::Serves(plan) => step_of_serve(plan, command, world, cache, carried),
+            Plan::Merges(plan) => step_of_merge(plan, command, world, cache, carried),
         }
     }
 }
@@ -113,7 +122,7 @@ fn step_on_file<D: Device>(
     requires at { PlanAt world.old cache.old plan.old.core.host carried.old (Plan.Files plan.old) }
     requires noted { (n : Notes) × PlanNoted command.now world.old plan.old.core.host carried.old (Plan.Files plan.old) n }
     ensures stepped { IfOk result (HasStepped command.now plan.old.core.host world.old world.new cache.new carried.old carried.new (Plan.Files plan.old) (Plan.Files plan.new)) }
-    ensures sooner { IfOk result (λ step. IsSooner world.old cache.old (Plan.Files plan.old) world.new cache.new (Plan.Files plan.new) step.next) }
+    ensures sooner { IfOk result (λ step. IsSooner world.old cache.old carried.old (Plan.Files plan.old) world.new cache.new carried.new (Plan.Files plan.new) step.next) }
     ensures none { IfErr result (λ e. IsUntouched plan.old.core.host world.old world.new) }
     ensures others { Others plan.old.core.host world.old world.new }
     ensures leaves { LeavesOthers plan.old.core.host cache.old cache.new }
@@ -141,7 +150,7 @@ fn step_on_slots<D: Device>(
     requires at { PlanAt world.old cache.old plan.old.host carried.old (Plan.Slots plan.old) }
     requires noted { (n : Notes) × PlanNoted command.now world.old plan.old.host carried.old (Plan.Slots plan.old) n }
     ensures stepped { IfOk result (HasStepped command.now plan.old.host world.old world.new cache.new carried.old carried.new (Plan.Slots plan.old) (Plan.Slots plan.new)) }
-    ensures sooner { IfOk result (λ step. IsSooner world.old cache.old (Plan.Slots plan.old) world.new cache.new (Plan.Slots plan.new) step.next) }
+    ensures sooner { IfOk result (λ step. IsSooner world.old cache.old carried.old (Plan.Slots plan.old) world.new cache.new carried.new (Plan.Slots plan.new) step.next) }
     ensures none { IfErr result (λ e. IsUntouched plan.old.host world.old world.new) }
     ensures others { Others plan.old.host world.old world.new }
     ensures leaves { LeavesOthers plan.old.host cache.old cache.new }
@@ -171,7 +180,7 @@ fn step_of_collection<D: Device>(
     requires at { PlanAt world.old cache.old plan.old.core.host carried.old (Plan.Collects plan.old) }
     requires noted { (n : Notes) × PlanNoted command.now world.old plan.old.core.host carried.old (Plan.Collects plan.old) n }
     ensures stepped { IfOk result (HasStepped command.now plan.old.core.host world.old world.new cache.new carried.old carried.new (Plan.Collects plan.old) (Plan.Collects plan.new)) }
-    ensures sooner { IfOk result (λ step. IsSooner world.old cache.old (Plan.Collects plan.old) world.new cache.new (Plan.Collects plan.new) step.next) }
+    ensures sooner { IfOk result (λ step. IsSooner world.old cache.old carried.old (Plan.Collects plan.old) world.new cache.new carried.new (Plan.Collects plan.new) step.next) }
     ensures none { IfErr result (λ e. IsUntouched plan.old.core.host world.old world.new) }
     ensures others { Others plan.old.core.host world.old world.new }
     ensures leaves { LeavesOthers plan.old.core.host cache.old cache.new }
@@ -202,7 +211,7 @@ fn step_on_hints<D: Device>(
     requires noted { (n : Notes) × PlanNoted command.now world.old plan.old.host carried.old (Plan.Hints plan.old) n }
     requires unasked { plan_asks world.old.locks.geometry (Plan.Hints plan.old) ≡ None }
     ensures stepped { IfOk result (HasStepped command.now plan.old.host world.old world.new cache.new carried.old carried.new (Plan.Hints plan.old) (Plan.Hints plan.new)) }
-    ensures sooner { IfOk result (λ step. IsSooner world.old cache.old (Plan.Hints plan.old) world.new cache.new (Plan.Hints plan.new) step.next) }
+    ensures sooner { IfOk result (λ step. IsSooner world.old cache.old carried.old (Plan.Hints plan.old) world.new cache.new carried.new (Plan.Hints plan.new) step.next) }
     ensures none { IfErr result (λ e. IsUntouched plan.old.host world.old world.new) }
     ensures others { Others plan.old.host world.old world.new }
     ensures leaves { LeavesOthers plan.old.host cache.old cache.new }
@@ -221,7 +230,71 @@ fn step_on_hints<D: Device>(
     }
 }
 
-// A host that joins or leaves keeps no table: one that leaves gives up its files one by one.
+// A step of a serve.
+fn step_of_serve<D: Device>(
+    plan: &mut ServePlan,
+    command: &Command,
+    world: &mut MetaWorld<D>,
+    cache: &mut HeldCache,
+    carried: &mut Carried,
+) -> Result<Step, NoMemory>
+    requires of { Command.Serve ≡ command.now }
+    requires at { PlanAt world.old cache.old plan.old.host carried.old (Plan.Serves plan.old) }
+    requires noted { (n : Notes) × PlanNoted command.now world.old plan.old.host carried.old (Plan.Serves plan.old) n }
+    ensures stepped { IfOk result (HasStepped command.now plan.old.host world.old world.new cache.new carried.old carried.new (Plan.Serves plan.old) (Plan.Serves plan.new)) }
+    ensures sooner { IfOk result (λ step. IsSooner world.old cache.old carried.old (Plan.Serves plan.old) world.new cache.new carried.new (Plan.Serves plan.new) step.next) }
+    ensures none { IfErr result (λ e. IsUntouched plan.old.host world.old world.new) }
+    ensures others { Others plan.old.host world.old world.new }
+    ensures leaves { LeavesOthers plan.old.host cache.old cache.new }
+{
+    let geometry = *world.locks().geometry();
+    let host = plan.host;
+    forget_for(command, host, cache);
+    match plan.next(world) {
+        Ok(step) => {
+            forget_behind(&step.next, host, cache);
+            carried.note(command, &step.next, &geometry);
+            carried.forget_slots(&step.next);
+            Ok(step)
+        }
+        Err(no) => Err(no),
+    }
+}
+
+// A step of a merge, which reads into the room of its host.
+fn step_of_merge<D: Device>(
+    plan: &mut MergePlan,
+    command: &Command,
+    world: &mut MetaWorld<D>,
+    cache: &mut HeldCache,
+    carried: &mut Carried,
+) -> Result<Step, NoMemory>
+    requires of { Command.Merge ≡ command.now }
+    requires at { PlanAt world.old cache.old plan.old.host carried.old (Plan.Merges plan.old) }
+    requires noted { (n : Notes) × PlanNoted command.now world.old plan.old.host carried.old (Plan.Merges plan.old) n }
+    requires unasked { plan_asks world.old.locks.geometry (Plan.Merges plan.old) ≡ None }
+    ensures stepped { IfOk result (HasStepped command.now plan.old.host world.old world.new cache.new carried.old carried.new (Plan.Merges plan.old) (Plan.Merges plan.new)) }
+    ensures sooner { IfOk result (λ step. IsSooner world.old cache.old carried.old (Plan.Merges plan.old) world.new cache.new carried.new (Plan.Merges plan.new) step.next) }
+    ensures none { IfErr result (λ e. IsUntouched plan.old.host world.old world.new) }
+    ensures others { Others plan.old.host world.old world.new }
+    ensures leaves { LeavesOthers plan.old.host cache.old cache.new }
+{
+    let geometry = *world.locks().geometry();
+    let host = plan.host;
+    forget_for(command, host, cache);
+    match plan.next(world, &mut carried.room) {
+        Ok(step) => {
+            forget_behind(&step.next, host, cache);
+            carried.note(command, &step.next, &geometry);
+            carried.forget_slots(&step.next);
+            Ok(step)
+        }
+        Err(no) => Err(no),
+    }
+}
+
+// A host that joins, leaves or shares blocks keeps no table: one that leaves gives up its files one by one, and a share changes the tables of its
+// file beside what is kept.
 fn forget_for(command: &Command, host: HostNo, cache: &mut HeldCache)
     requires { host < cache.old.volume.hosts }
     ensures { ForgetsFor command.now host cache.old cache.new }

@@ -7,7 +7,7 @@ ghost use Rattle.cluster.specs.PlanTurns.{GoesSooner};
 ghost use Rattle.cluster.specs.Plans.{IsOf, IsPlanned, IsResting, PlanAt};
 ghost use Rattle.cluster.specs.Seats.{HasMoved, IsKnown, MakesTurn, PlanNotedOf, PlanStandsOf, at_once, is_last, left_behind, less};
 ghost use Rattle.host_runs.specs.Notes.{Notes};
-ghost use Rattle.cluster.specs.Views.{resting};
+ghost use Rattle.cluster.specs.Views.{IsFirstSeat};
 ghost use Rattle.vol_layout.specs.Ranges.{IsGeometry};
 ghost use Rattle.workload.specs.Ranges.{is_in_range};
 ghost use Rattle.file_plans.specs.Went.{LeavesOthers};
@@ -21,6 +21,7 @@ use crate::plan::Plan;
 use held_cache::HeldCache;
 use meta_world::MetaWorld;
 use shared_disk::Device;
+use std::alloc::{AllocError, Global};
 use vol_base::{Answer, Command, CutBy, Digest, HostNo, Next, NoMemory, PlainReply, Step};
 use vol_layout::Geometry;
 
@@ -44,15 +45,15 @@ pub struct Done {
 
 impl Seat {
     /// A host that has not begun.
-    pub fn new(geometry: &Geometry) -> Seat
+    pub fn new(alloc: Global, geometry: &Geometry) -> Result<Seat, AllocError>
         requires { IsGeometry geometry.now }
-        ensures { result ≡ resting geometry.now }
+        ensures { IfOk result (IsFirstSeat geometry.now) }
     {
-        Seat {
+        Ok(Seat {
             plan: None,
-            carried: Carried::new(geometry),
+            carried: Carried::new(alloc, geometry)?,
             left: None,
-        }
+        })
     }
 
     /// One turn of the host with this command. Where there was no memory for it nothing was done, and the host is at its end.
@@ -70,7 +71,7 @@ impl Seat {
         requires noted { (n : Notes) × PlanNotedOf command.now world.old host self.old.carried self.old.plan n }
         requires unasked { asked_with world.old.locks.geometry self.old.plan (is_some (host_at world.old.locks host).key) command.now ≡ None }
         ensures made { IfOk result (MakesTurn command.now host world.old world.new cache.new self.old self.new) }
-        ensures sooner { IfOk result (λ done. GoesSooner world.old cache.old self.old.plan world.new cache.new self.new.plan done.ended) }
+        ensures sooner { IfOk result (λ done. GoesSooner world.old cache.old self.old world.new cache.new self.new done.ended) }
         ensures none { IfErr result (λ e. IsUntouched host world.old world.new) }
         ensures others { Others host world.old world.new }
         ensures leaves { LeavesOthers host cache.old cache.new }
@@ -110,7 +111,7 @@ impl Seat {
         requires noted { (n : Notes) × PlanNotedOf command.now world.old host self.old.carried self.old.plan n }
         requires unasked { asked_with world.old.locks.geometry None (is_some (host_at world.old.locks host).key) command.now ≡ None }
         ensures made { IfOk result (MakesTurn command.now host world.old world.new cache.new self.old self.new) }
-        ensures sooner { IfOk result (λ done. GoesSooner world.old cache.old self.old.plan world.new cache.new self.new.plan done.ended) }
+        ensures sooner { IfOk result (λ done. GoesSooner world.old cache.old self.old world.new cache.new self.new done.ended) }
         ensures none { IfErr result (λ e. IsUntouched host world.old world.new) }
         ensures others { Others host world.old world.new }
         ensures leaves { LeavesOthers host cache.old cache.new }
@@ -141,7 +142,7 @@ impl Seat {
         requires noted { (n : Notes) × PlanNotedOf command.now world.old host self.old.carried self.old.plan n }
         requires unasked { IfSome self.old.plan (λ plan. plan_asks world.old.locks.geometry plan ≡ None) }
         ensures made { IfOk result (MakesTurn command.now host world.old world.new cache.new self.old self.new) }
-        ensures sooner { IfOk result (λ done. GoesSooner world.old cache.old self.old.plan world.new cache.new self.new.plan done.ended) }
+        ensures sooner { IfOk result (λ done. GoesSooner world.old cache.old self.old world.new cache.new self.new done.ended) }
         ensures none { IfErr result (λ e. IsUntouched host world.old world.new) }
         ensures others { Others host world.old world.new }
         ensures leaves { LeavesOthers host cache.old cache.new }
@@ -186,7 +187,7 @@ impl Seat {
         requires noted { (n : Notes) × PlanNotedOf command.now world.old host self.old.carried self.old.plan n }
         requires unasked { IfSome self.old.plan (λ plan. plan_asks world.old.locks.geometry plan ≡ None) }
         ensures stepped { IfOk result (HasMoved command.now host world.old world.new cache.new self.old self.new) }
-        ensures sooner { IfOk result (λ step. GoesSooner world.old cache.old self.old.plan world.new cache.new self.new.plan (ended_of step.next)) }
+        ensures sooner { IfOk result (λ step. GoesSooner world.old cache.old self.old world.new cache.new self.new (ended_of step.next)) }
         ensures none { IfErr result (λ e. IsUntouched host world.old world.new) }
         ensures others { Others host world.old world.new }
         ensures leaves { LeavesOthers host cache.old cache.new }
@@ -264,7 +265,7 @@ impl Seat {
         world.locks_mut().drop_host(host);
         cache.forget_host(host);
         self.plan = None;
-        self.carried = Carried::new(&geometry);
+        self.carried.forget(&geometry);
         self.left = None;
     }
 }

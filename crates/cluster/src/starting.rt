@@ -3,7 +3,7 @@ ghost use Rattle.std.specs.Prelude.{◌≡◌, ◌+◌, ◌<◌, ◌≤◌, ◌^
 ghost use Rattle.cluster.specs.Agreements.{IsKnownLine};
 ghost use Rattle.cluster.specs.Runs.{Facts, Led};
 ghost use Rattle.cluster.specs.Starts.{AreFirst, HasRefused, HasStarted, IsRoomFor, first_cluster};
-ghost use Rattle.cluster.specs.Views.{resting};
+ghost use Rattle.cluster.specs.Views.{IsFirstSeat};
 ghost use Rattle.host_runs.specs.DeviceCalls.{OnImage};
 ghost use Rattle.image_view.specs.Valid.{IsValid};
 ghost use Rattle.shared_disk.specs.Seen.{seen_by};
@@ -129,12 +129,13 @@ fn first_lines(alloc: Global, lines: &[Line], hosts: HostNo) -> Result<Vec<Optio
 // All hosts before they begin.
 fn first_seats(alloc: Global, geometry: &Geometry) -> Result<Vec<Seat>, NoMemory>
     requires { IsGeometry geometry.now }
-    ensures { IfOk result (λ seats. seats.items ≡ replicate geometry.now.hosts (resting geometry.now)) }
+    ensures hosts { IfOk result (λ seats. length seats.items ≡ geometry.now.hosts) }
+    ensures first { IfOk result (λ seats. All (IsFirstSeat geometry.now) seats.items) }
 {
     let hosts = geometry.hosts;
     let mut seats = Vec::with_capacity(alloc, usize::from(hosts))?;
     for _ in 0..hosts {
-        seats.push_reserved(Seat::new(geometry));
+        seats.push_reserved(Seat::new(alloc, geometry)?);
     }
     Ok(seats)
 }

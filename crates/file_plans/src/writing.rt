@@ -234,6 +234,7 @@ fn behind_other(shared: Option<Kept>, old: DataNo, number: DataNo, group: Kept) 
     }
 }
 
+#[inline(never)]
 fn puts_for(number: DataNo, group: Kept, left: Old) -> Stage
     ensures { result ≡ puts_for number group left }
 {

@@ -33,7 +33,7 @@
 //! - Fewer steps are left behind each step that goes on, and behind a digest (`supply_fewer`); other hosts leave as many (`left_still`). At most 2
 //!   come of a `scribble`, 17 of a `log`, and 400 of any command (`first_few`).
 //!
-//! The serving of requests is a plan of a crate of its own, `serve_plan`. A merge is not built yet.
+//! The serving of requests is a plan of a crate of its own, `serve_plan`, and a merge one of `merge_plan`.
 #![tactic(auto)]
 
 mod found;

@@ -134,6 +134,43 @@ used 1 mapped 1
 ",
 };
 
+// The block 20 has the requests of file 0. Its one request names an empty slot, and stays until the last call, so another host finds it.
+static OF_A_SERVE: Deaths = Deaths {
+    shows: "a serve",
+    blocks: 1032,
+    host: 0,
+    command: "serve",
+    calls: 4,
+    place: 4,
+    before: "\
+volume 2 4 1 1 1 1
+0 join -> joined 32
+1 join -> joined 49
+barrier
+0 create 0 -> ok
+0 size 0 1 -> ok
+0 write 0 0 7 -> ok
+0 scribble 20 5 0 -> ok
+",
+    behind: RECOVERS,
+    undone: "\
+1 size 0 1 -> ok
+1 serve -> served 0 0 0 1
+1 read 0 0 -> = 7
+
+history 5 6 7 16 18
+used 1 mapped 1
+",
+    done: "\
+1 size 0 1 -> ok
+1 serve -> served 0 0 0 0
+1 read 0 0 -> = 7
+
+history 5 6 7 16 18
+used 1 mapped 1
+",
+};
+
 // The first host dies behind its record, so its write stands wherever the second one dies. Behind the last call of its recovery the slot of
 // the first is free.
 static OF_A_RECOVERY: Deaths = Deaths {
@@ -190,6 +227,72 @@ used 1 mapped 1
 ",
 };
 
+// A host dies in a merge in which one entry is stale, one alone, and one linked, and joins again.
+static OF_A_MERGE: Deaths = Deaths {
+    shows: "a merge",
+    blocks: 3062,
+    host: 1,
+    command: "merge",
+    calls: 28,
+    place: 17,
+    before: "\
+volume 3 4 3 2 3 2
+0 join -> joined 32
+1 join -> joined 49
+2 join -> joined 66
+barrier
+0 create 0 -> ok
+0 size 0 5 -> ok
+0 write 0 0 3 -> ok
+0 write 0 1 4 -> ok
+0 size 0 2 -> ok
+0 create 1 -> ok
+0 size 1 4 -> ok
+0 write 1 2 6 -> ok
+1 create 2 -> ok
+1 size 2 3 -> ok
+1 write 2 1 8 -> ok
+1 size 2 1 -> ok
+0 write 0 0 6 -> ok
+0 write 1 0 6 -> ok
+0 log -> logged 5
+0 merge -> merged 1 2 2 0 0 0 0 0 0
+0 write 1 1 6 -> ok
+0 log -> logged 1
+0 merge -> merged 0 0 1 0 0 0 0 0 0
+1 size 2 3 -> ok
+1 write 2 0 6 -> ok
+1 write 2 2 8 -> ok
+1 log -> logged 3
+barrier
+",
+    behind: "\
+barrier
+1 join -> joined 81
+barrier
+2 read 0 0 -> busy 32
+2 read 0 1 -> busy 32
+2 read 0 2 -> busy 32
+2 read 1 0 -> busy 32
+2 read 1 1 -> busy 32
+2 read 1 2 -> busy 32
+2 read 2 0 -> = 6
+2 read 2 1 -> = 0
+2 read 2 2 -> = 8
+2 close 0 -> ok
+2 close 1 -> ok
+2 close 2 -> ok
+",
+    undone: "
+history 6 14 7 15 8 16 17 9 10 25 11 12 26 13 27 18 19 22 41 42 43
+used 4 mapped 8
+",
+    done: "
+history 6 14 7 15 8 16 17 9 10 25 11 12 26 13 27 18 19 22 41 42 43
+used 3 mapped 8
+",
+};
+
 // Runs the command with each number of calls, and checks the volume behind each run.
 fn die_at_each_call(rt: &impl Abort, alloc: Global, deaths: &Deaths) -> Result<(), Fail> {
     for calls in 1..=deaths.calls {
@@ -240,7 +343,9 @@ fn a_host_dies_at_each_call(rt: HostRuntime) -> Result<(), Fail> {
         &OF_A_WRITE_IN_PLACE,
         &OF_A_PUNCH,
         &OF_A_REMOVE,
+        &OF_A_SERVE,
         &OF_A_RECOVERY,
+        &OF_A_MERGE,
     ] {
         die_at_each_call(&rt, alloc, deaths)?;
     }

@@ -47,8 +47,8 @@ fn words_of_no_form(rt: HostRuntime) -> Result<(), Fail> {
     Ok(())
 }
 
-// Texts with their refusals. A text in the language is refused at its first line that no job runs yet.
-static TEXTS: [(&str, &str); 8] = [
+// Texts with their refusals.
+static TEXTS: [(&str, &str); 6] = [
     ("", "workload line 1: volume\n"),
     (
         "volume 2 4 1 1 4 1\n0 join\n16 join\n",
@@ -62,16 +62,11 @@ static TEXTS: [(&str, &str); 8] = [
         "volume 2 4 1 1 4 1\n0 merge\n0 size 0\n",
         "workload line 3: count\n",
     ),
+    ("volume 2 4 1 1 1 1\n0 merges\n", "workload line 2: word\n"),
     (
-        "volume 2 4 1 1 1 1\n0 join\n0 create 0\n0 size 0 1\n0 write 0 0 5\n0 create 1\n0 size 1 1\n0 write 1 0 5\n0 log\n0 merge\n",
-        "workload line 10: word\n",
+        "volume 2 4 1 1 1 1\n0 serve 1\n",
+        "workload line 2: count\n",
     ),
-    (
-        "volume 2 4 1 1 1 1\n0 join\nbarrier\n1 serve\n",
-        "workload line 4: word\n",
-    ),
-    ("volume 2 4 1 1 1 1\n0 merge\n", "workload line 2: word\n"),
-    ("volume 2 4 1 1 1 1\n0 serve\n", "workload line 2: word\n"),
 ];
 
 #[test]

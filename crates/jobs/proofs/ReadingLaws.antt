@@ -1,8 +1,7 @@
--- What is built of a text.
-use Rattle.std.proofs.Common.{◌≡◌, ◌==◌, ◌+◌, ◌<◌, ℕ, zero, suc, All, true, false, List, [], ◌∷◌, Option, Some, None, Err, IsTrue, inl, inr, refl, sym, length, get_or, arith}
-use Rattle.std.specs.Prelude.{find, nat_le, not}
-use Rattle.std.specs.Option.{option_map}
-use Rattle.std.proofs.lemmas.Bool.{cases_Bool, eq-eqb, false≢true}
+-- The workload of a text, and how much of a source is read.
+use Rattle.std.proofs.Common.{◌≡◌, ◌==◌, ◌+◌, ◌<◌, ℕ, All, false, List, Err, IsTrue, inr, refl, sym, length, get_or, arith}
+use Rattle.std.specs.Prelude.{nat_le, not}
+use Rattle.std.proofs.lemmas.Bool.{eq-eqb, false≢true}
 use Rattle.std.proofs.lemmas.Bool.Decides.{nat_tests}
 use Rattle.vol_base.specs.declared.command.Command.{Command}
 use Rattle.vol_base.specs.declared.command.Command.TheVariants as commands
@@ -18,52 +17,25 @@ use Rattle.workload.specs.Workloads.{IsAllowed}
 use Rattle.cluster.specs.Agreements.{IsKnownLine}
 use Rattle.cluster.specs.Seats.{IsKnown}
 use Rattle.jobs.specs.declared.outcome.Outcome.TheVariants as outcomes
-use Rattle.jobs.specs.Built.{built_workload_of, first_unbuilt, is_built}
 use Rattle.jobs.specs.Sources.{SourceSeen, StopsReading, TakesAtMost}
-
--- where no line is found that is not built, each one is
-built_at : (lines : List Line) → find (λ line. not (is_built line.command)) lines ≡ None → (k : ℕ) (d : Line) → k < length lines
-    → is_built (get_or lines k d).command ≡ true
-built_at [] none k d below = absurd (omega (arith, below))
-built_at (line ∷ lines) none zero d below =
-    elim (cases_Bool (is_built line.command)) [
-      | inl built ↦ built
-      | inr other ↦ let e : Some line ≡ None = rw other at none in cc
-    ]
-built_at (line ∷ lines) none (suc k) d below =
-    elim (cases_Bool (is_built line.command)) [
-      | inl built ↦ built_at lines (rw built at none) k d (omega (arith, below))
-      | inr other ↦ let e : Some line ≡ None = rw other at none in cc
-    ]
 
 is_foreign : (host of : ℕ) → IsTrue (not (host == of)) → host ≡ of → ⊥
 is_foreign host of foreign own = let same = eq-eqb host of own in false≢true (rw same at foreign)
 
--- a cluster knows each command that is built
-known_command : (host : ℕ) (c : Command) → IsTrue (not (is_own host c)) → is_built c ≡ true → IsKnown host c
-known_command host commands.Merge foreign is = absurd (false≢true is)
-known_command host commands.Serve foreign is = absurd (false≢true is)
-known_command host (commands.Look of) foreign is = λ own. is_foreign host of foreign (sym own)
-known_command host (commands.Recover of) foreign is = λ own. is_foreign host of foreign (sym own)
-known_command host _ foreign is = tt
+-- a cluster knows each command of the language
+known_command : (host : ℕ) (c : Command) → IsTrue (not (is_own host c)) → IsKnown host c
+known_command host (commands.Look of) foreign = λ own. is_foreign host of foreign (sym own)
+known_command host (commands.Recover of) foreign = λ own. is_foreign host of foreign (sym own)
+known_command host _ foreign = tt
 
--- nothing was found where nothing was made of it
-found_none : (o : Option Line) → option_map (λ line. line.at) o ≡ None → o ≡ None
-found_none None none = refl
-found_none (Some line) none = cc
-
--- each line of a workload that has no line that is not built
-pub all_known : (g : Geometry) (lines : List Line) → All (IsAllowed g) lines → None ≡ first_unbuilt lines → All IsKnownLine lines
-unfolding first_unbuilt
-all_known g lines allowed none =
-    let found : find (λ line. not (is_built line.command)) lines ≡ None = found_none (find (λ line. not (is_built line.command)) lines) (sym none) in
-    λ k d below.
-    let line = get_or lines k d in
-    known_command line.host line.command (allowed k d below).foreign (built_at lines found k d below)
+-- and so each line of a workload
+pub all_known : (g : Geometry) (lines : List Line) → All (IsAllowed g) lines → All IsKnownLine lines
+all_known g lines allowed = λ k d below.
+    let line = get_or lines k d in known_command line.host line.command (allowed k d below).foreign
 
 -- a text that is too long is refused
-pub too_long : (text : List ℕ) → most_bytes < length text → built_workload_of text ≡ Err (0, causes.Long)
-unfolding built_workload_of workload_of most_bytes
+pub too_long : (text : List ℕ) → most_bytes < length text → workload_of text ≡ Err (0, causes.Long)
+unfolding workload_of most_bytes
 too_long text long = let no : nat_le (length text) 1048576 ≡ false = grind (arith, nat_tests) in rw no refl
 
 -- so is that of which one byte more was read than a text may have

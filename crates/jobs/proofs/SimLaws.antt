@@ -9,13 +9,12 @@ use Rattle.volume_opening.specs.Openings.{IsOnTheWay}
 use Rattle.volume_opening.specs.declared.open_no.OpenNo.{OpenNo}
 use Rattle.volume_opening.specs.declared.open_no.OpenNo.TheVariants as openings
 use Rattle.workload.specs.declared.line.Workload.{Workload}
-use Rattle.workload.specs.Grammar.{Refusal, most_bytes}
+use Rattle.workload.specs.Grammar.{Refusal, most_bytes, workload_of}
 use Rattle.jobs.specs.declared.outcome.AfterRun.TheVariants as after_runs
 use Rattle.jobs.specs.declared.outcome.Outcome.{Outcome}
 use Rattle.jobs.specs.declared.outcome.Outcome.TheVariants as outcomes
 use Rattle.jobs.specs.declared.status.Status.{Status}
 use Rattle.jobs.specs.declared.status.Status.TheVariants as statuses
-use Rattle.jobs.specs.Built.{built_workload_of}
 use Rattle.jobs.specs.Endings.{Ends, IsSmooth, IsTold, SinkSeen}
 use Rattle.jobs.specs.Outcomes.{outcome_text, status_of}
 use Rattle.jobs.specs.Runs.{HasSomeRun, IsRefusable, IsUnfit, IsUnopened, RunDecides, Schedule, unopened}
@@ -135,19 +134,19 @@ images_left schedule before after outcome (inr run) =
     inr (record { workload = run.workload; read = run.read; left = leaves run.workload schedule before.disk after.disk outcome run.decides })
 
 -- a text that the source gave whole, or too long, reads as the text that it told
-text_reads : (left rest : Option (List ℕ)) (text : List ℕ) (reading : Result Workload Refusal) → IsSomeAnd left (λ bytes. built_workload_of bytes ≡ reading)
-    → Consumes left rest text → IsAtEnd rest ⊎ (most_bytes < length text) → built_workload_of text ≡ reading
+text_reads : (left rest : Option (List ℕ)) (text : List ℕ) (reading : Result Workload Refusal) → IsSomeAnd left (λ bytes. workload_of bytes ≡ reading)
+    → Consumes left rest text → IsAtEnd rest ⊎ (most_bytes < length text) → workload_of text ≡ reading
 text_reads None rest text reading gives consumed whole = absurd gives
 text_reads (Some bytes) None text reading gives consumed whole = absurd consumed
 text_reads (Some bytes) (Some rest) text reading gives consumed (inl ended) =
     let all : bytes ≡ text = consumed ∙ ap (λ xs. text ++ xs) ended ∙ append-nil text in
-    ap built_workload_of (sym all) ∙ gives
+    ap workload_of (sym all) ∙ gives
 text_reads (Some bytes) (Some rest) text reading gives consumed (inr long) =
     let longer : most_bytes < length bytes = rw (ap length consumed, length-append text rest) (omega (arith, long)) in
     too_long text long ∙ (sym (too_long bytes longer) ∙ gives)
 
 -- one text has one reading
-clash : (line : Refusal) (w : Workload) (text : List ℕ) → built_workload_of text ≡ Err line → built_workload_of text ≡ Ok w → ⊥
+clash : (line : Refusal) (w : Workload) (text : List ℕ) → workload_of text ≡ Err line → workload_of text ≡ Ok w → ⊥
 clash line w text refused read = cc
 
 -- a reading that was stopped while the source tells a workload's text is a fault or a want of memory

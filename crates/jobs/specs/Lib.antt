@@ -1,5 +1,4 @@
 pub mod Beyond
-pub mod Built
 pub mod Checks
 pub mod Commands
 pub mod Endings

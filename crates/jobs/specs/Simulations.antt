@@ -9,13 +9,12 @@ use Rattle.volume_opening.specs.Openings.{IsOnTheWay}
 use Rattle.volume_opening.specs.declared.open_no.OpenNo.{OpenNo}
 use Rattle.workload.specs.declared.cause.WorkloadNo.{WorkloadNo}
 use Rattle.workload.specs.declared.line.Workload.{Workload}
-use Rattle.workload.specs.Grammar.{Refusal, most_bytes}
+use Rattle.workload.specs.Grammar.{Refusal, most_bytes, workload_of}
 use Rattle.cluster.specs.Starts.{HasRefused}
 use Rattle.jobs.specs.declared.outcome.AfterRun.{AfterRun}
 use Rattle.jobs.specs.declared.outcome.Outcome.{Outcome}
 use Rattle.jobs.specs.declared.status.Status.{Status}
 use Rattle.jobs.specs.declared.status.Status.TheVariants as statuses
-use Rattle.jobs.specs.Built.{built_workload_of}
 use Rattle.jobs.specs.Endings.{HasFailed, IsSmooth}
 use Rattle.jobs.specs.Outcomes.{outcome_text, status_of, survey_status, survey_text, workload_line}
 use Rattle.jobs.specs.Runs.{HasSomeRun, IsDone, IsFitFor, IsRefusable, IsUnfit, IsUnsurveyed, RunDecides, Schedule, unopened}
@@ -107,7 +106,7 @@ pub record LeavesImages (before after : Seen) : Type 0 where
 
 -- the source tells a text that is read as this
 abbrev pub GivesText : Seen → Result Workload Refusal → Type 0
-GivesText before reading = IsSomeAnd before.source.left (λ text. built_workload_of text ≡ reading)
+GivesText before reading = IsSomeAnd before.source.left (λ text. workload_of text ≡ reading)
 
 -- the statuses to which the others yield
 abbrev pub IsYielding : Status → Type 0

@@ -7,7 +7,7 @@
 //!   `hosts_of`, exact): `SimEnds`, `ChecksAlone`, `SettlesAlone`, `Generates` or `UsageEnds`. `CommandEnds`, of `command`, has `UsageEnds` for `run`, since that job needs
 //!   threads; `TopEnds`, of `top`, has `SimEnds` of threads there, and else the same.
 //! - `SimEnds` of a schedule, of `sim` and of `run`: each status has its cause (`CauseOf`, one line a status):
-//!   - Ok: the source was read to its end, and its text is that of a workload each line of which is built; the sink took exactly the report
+//!   - Ok: the source was read to its end, and its text is that of a workload; the sink took exactly the report
 //!     of that workload, of the answers and the history of a run, and of the usage of the last image. The run (`IsRunOf`): the device was
 //!     opened; calls of a run, each of them a turn, a digest or the beginning of a phase as `host_runs` says it, lead from there to a state in
 //!     which no host has a command left, in the last phase; for `sim` they are the moves of the schedule, each digest the SHA-1 of its block;
@@ -16,8 +16,8 @@
 //!     behind the volume's blocks (`KeepsBeyond`). Where the workload is tidy, the image
 //!     handed in is blank or has no host, and no call of the device failed, no command is busy or cut, and each file command of a joined host
 //!     has its plain reply, or `full` for a `write` (`served`). What is said of images holds where the device tells its image.
-//!   - Workload: the text is refused at its first faulty line with its first cause, or at its first line that is not built with the cause
-//!     `word`, or at line 0 where it is too long; the device is untouched.
+//!   - Workload: the text is refused at its first faulty line with its first cause, or at line 0 where it is too long; the device is
+//!     untouched.
 //!   - Geometry, Volume, DiskFault before the run (`RefusesDevice`): as `Cluster::start` refuses, with the written numbers and all faults of
 //!     the first stage that has any. Volume and DiskFault behind the run (`StopsAtSurvey`): the report without its usage stands before the
 //!     text of the survey's refusal, and all that Ok says of the run holds. A block that was not of its kind is block 0, or a slot, journal,

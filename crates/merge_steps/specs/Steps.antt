@@ -12,6 +12,7 @@ use Rattle.host_facts.specs.Knows.{Knows}
 use Rattle.host_facts.specs.Views.{WorldView}
 use Rattle.host_runs.specs.Notes.{NotedCall, Notes}
 use Rattle.plan_parts.specs.QuietCalls.{Noted, QuietCall}
+use Rattle.plan_parts.specs.declared.outcome.Outcome.{Outcome}
 use Rattle.plan_parts.specs.declared.outcome.Outcome.TheVariants.{Open}
 use Rattle.plan_parts.specs.Steps.{IsReady}
 use Rattle.merge_steps.specs.Logs.{AreLogs, LogsRead}
@@ -21,11 +22,15 @@ pub record IsMerging (v : WorldView) (h : ℕ) : Type 0 where
   pub host : h < v.locks.geometry.hosts
   pub ready : IsReady v h
 
--- the notes of a merge under way: these hints are pending, and its calls did this with the own log blocks
-pub record MergeNoted (h : ℕ) (v : WorldView) (pending : List LogEntry) (r : LogsRead) (n : Notes) : Type 0 where
-  pub noted : Noted Merge h v Open n
+-- the notes of a merge under way, by what it has come to: these hints are pending, and its calls did this with the own log blocks
+pub record MergeCame (h : ℕ) (v : WorldView) (outcome : Outcome) (pending : List LogEntry) (r : LogsRead) (n : Notes) : Type 0 where
+  pub noted : Noted Merge h v outcome n
   pub pending_is : n.pending ≡ pending
   pub logs : AreLogs v.locks.geometry h r n.calls
+
+-- where it has come to nothing yet
+abbrev pub MergeNoted : ℕ → WorldView → List LogEntry → LogsRead → Notes → Type 0
+MergeNoted h v pending r n = MergeCame h v Open pending r n
 
 -- and the digest of this block is waited for, which the last call showed
 pub record MergeAsking (h : ℕ) (v : WorldView) (pending : List LogEntry) (r : LogsRead) (block : Block) (n : Notes) : Type 0 where

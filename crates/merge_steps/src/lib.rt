@@ -13,8 +13,9 @@
 //!   with nine counts that add up to the hints that were read; then the answer has its cause (`HasMerged`). `merge_goes_on`: it may go on,
 //!   without a digest that is asked for.
 //!
-//! - `reads_table`, `reads_block`: the same of a table and of a data block of a held file, of which it is then known what stands there. `merge_asks`: behind the
-//!   read of a data block its digest may be asked for; it is then waited for (`merge_waits`), and handed in (`merge_handed`).
+//! - `reads_table`, `reads_block`: the same of a table and of a data block of a held file, of which it is then known what stands there; a table's numbers are
+//!   in range. `merge_asks`: behind the read of a data block its digest may be asked for; it is then waited for (`merge_waits`), and handed in
+//!   (`merge_handed`).
 //! - `passes`: the entries of a shelf that need no device call are handled one after the other (`ArePassed`), each by the decision from the lock that is not
 //!   held and the shelf as it then stands, and counted; up to one that asks for a call (`IsDue`): of a held file, or to be posted, or none is left
 //!   of this shelf. The counts add up to the entries that are done (`IsSweeping`).

@@ -10,6 +10,7 @@ ghost use Rattle.merge_steps.specs.Logs.{LogsRead};
 ghost use Rattle.merge_steps.specs.Steps.{IsMerging, Went};
 ghost use Rattle.plan_parts.specs.Cuts.{IsCut};
 ghost use Rattle.shared_disk.specs.Events.{Reads, Shows};
+ghost use Rattle.table_blocks.specs.Tables.{IsPackingOf};
 ghost use Rattle.vol_base.specs.Packing.{packed_bytes};
 ghost use Rattle.disk_locks.specs.Keys.{owner};
 ghost use Rattle.vol_layout.specs.Fields.{HasField};
@@ -23,7 +24,7 @@ use shared_disk::Device;
 use vol_base::{Block, DataNo, HostNo, Packed};
 use vol_layout::{Field, Kind, Table};
 
-/// Reads a table of a resource that the host holds or reads, which is then known.
+/// Reads a table of a resource that the host holds or reads, which is then known, with numbers in range.
 pub fn reads_table<D: Device>(
     world: &mut MetaWorld<D>,
     host: HostNo,
@@ -34,6 +35,7 @@ pub fn reads_table<D: Device>(
     requires may { may_read (host_at world.old.locks host) (owner which) ≡ true }
     ensures went { IfOk result (λ table. (r : LogsRead) → Went host world.old world.new (Reads (place_of world.old.locks.geometry (Kind.Table which))) (Shows (packed_bytes 4 table)) r r) }
     ensures known { IfOk result (λ table. Knows world.new host (TableIs which table)) }
+    ensures packing { IfOk result (IsPackingOf world.old.locks.geometry which) }
     ensures cut { IfErr result (IsCut host world.old world.new) }
     ensures others { Others host world.old world.new }
 {

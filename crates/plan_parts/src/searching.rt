@@ -118,6 +118,7 @@ fn group_at(geometry: &Geometry, host: HostNo, k: u8) -> u8
 }
 
 // What the table of a group says, where it is tried after k others.
+#[inline(never)]
 #[tactic(auto, unfolding(vol_layout::specs::Ranges::per_table))]
 fn counted(kept: Kept, group: u8, k: u8, groups: u8) -> Searching
     requires long { length kept.table.entries ≡ per_table }

@@ -82,6 +82,11 @@ pub record IsFilling (v : WorldView) (core : Promotion) (d t : ℕ) (part : Kept
   pub held : holds (host_at v.locks core.host) (Group (d / per_table)) ≡ true
   pub few : length core.taken ≤ 2
 
+-- the slot of an answer is one of the volume
+abbrev pub HasSlot : Geometry → Promoted → Type 0
+HasSlot g (answers.Promoted t) = HasField g (Slot t)
+HasSlot g answer = Unit {0}
+
 -- what stands at each stage
 abbrev pub At : WorldView → Promotion → Doing → Type 0
 At v core (doings.Reads t) =
@@ -95,7 +100,8 @@ At v core (doings.LocksGroup d t part) =
     × IsEmptySlot v core.host t part
 At v core (doings.ReadsGroup d t part) = IsFilling v core d t part
 At v core (doings.Commits d t part group) = IsFilling v core d t part × IsGroupOf v core.host d group
-At v core (doings.Closes closing answer) = IsHost v core.host core.file × IsClosing v core.host core.taken closing
+At v core (doings.Closes closing answer) =
+    IsHost v core.host core.file × IsClosing v core.host core.taken closing × HasSlot v.locks.geometry answer
 At v core doings.Over = ⊥
 
 -- the steps that are left at most, with the one that comes next
@@ -173,7 +179,7 @@ outcome_by answer = outcomes.Open
 
 abbrev pub StandsBehind : WorldView → Promotion → Reached → Type 0
 StandsBehind w core (More stage) = At w core stage
-StandsBehind w core (Answered answer) = IsHost w core.host core.file × IsReady w core.host
+StandsBehind w core (Answered answer) = IsHost w core.host core.file × IsReady w core.host × HasSlot w.locks.geometry answer
 
 -- the promotion is of the same host and place
 pub record IsSame (old new : Promotion) : Type 0 where

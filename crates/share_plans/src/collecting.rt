@@ -136,6 +136,8 @@ fn behind_group(core: &Collection, key: Key, part: Kept, group: Kept) -> Gatheri
 }
 
 /// The record is written by which the slots are emptied.
+// LLVM takes a minute for `steps` where this stands inside it.
+#[inline(never)]
 pub fn commits<D: Device>(
     core: &mut Collection,
     world: &mut MetaWorld<D>,

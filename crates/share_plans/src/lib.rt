@@ -22,7 +22,8 @@
 //!   would edit the block's count. So it is the slot's logical number.
 //! - `PromotePlan::next`: the same of a promotion. `Promoted` comes at its commit alone (`IsPromotion`): the lowest empty slot of the host's own
 //!   part names the block, the pointer has the mark, and the count is 2, of a block that had no mark and the count 1. `Marked`, `Hole` and
-//!   `PartFull` come by the logical numbers at their read. At most thirteen steps come.
+//!   `PartFull` come by the logical numbers at their read. The slot of an answer is one of the volume, whatever the device tells (`HasSlot`).
+//!   At most thirteen steps come.
 //! - A step that is refused cuts the command of which the plan is a part (`IsCut`), and changes no file. Behind an answer no record stands, and the
 //!   host holds no part and no group (`IsReady`).
 //! - The plans begin where their host is ready and holds their files (`share_begins`, `promote_begins`), and stand over the calls of other
@@ -37,8 +38,11 @@
 //! - It begins where its host is ready (`collect_begins`, `collect_noted`), and stands over the calls of other hosts, as do the notes that agree
 //!   with it (`collect_still`, `collect_noted_still`).
 //!
+//! - `shown`: what the tables that were read (`FileTables`) say of a file's block: the table that is to be read first, that there is none, or its data
+//!   block (`IsSpot`). Every plan that looks at a place uses it.
+//!
 //! Over a device that tells nothing a count at its greatest number stays as it is; over one that tells, a link always has room for one more.
-//! The serving of requests (`serve_plan`) and a host that is alone (`solo`) call the plans of sharing; a merge will.
+//! The serving of requests (`serve_plan`), a merge (`merge_actions`) and a host that is alone (`solo`) call the plans of sharing.
 #![tactic(auto)]
 
 mod closing;
@@ -69,3 +73,5 @@ pub use promote::PromotePlan;
 pub use promotion::Promoted;
 pub use share::SharePlan;
 pub use sharing::{Place, Shared};
+pub use sight::{Spot, shown};
+pub use tables::FileTables;

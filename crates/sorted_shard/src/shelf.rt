@@ -61,6 +61,21 @@ impl Shelf {
         shelf
     }
 
+    /// A shelf of one to four blocks that has no entry.
+    pub fn empty(blocks: u32, geometry: &Geometry) -> Shelf
+        requires geometry { IsGeometry geometry.now }
+        requires some { 1 ≤ blocks }
+        requires few { blocks ≤ 4 }
+        ensures { result ≡ record { geometry = geometry.now; blocks = blocks; entries = [] } }
+    {
+        Shelf {
+            geometry: *geometry,
+            blocks,
+            count: 0,
+            entries: [BLANK; MOST],
+        }
+    }
+
     /// The entries of a digest, in order.
     pub fn entries_of(&self, digest: &Digest) -> &[IndexEntry]
         ensures entries { result.now ≡ with_digest digest.now.0 self.now.entries }
@@ -104,20 +119,6 @@ impl Shelf {
             hints.push_over(*entry);
         }
         hints
-    }
-
-    fn empty(blocks: u32, geometry: &Geometry) -> Shelf
-        requires geometry { IsGeometry geometry.now }
-        requires some { 1 ≤ blocks }
-        requires few { blocks ≤ 4 }
-        ensures { result ≡ record { geometry = geometry.now; blocks = blocks; entries = [] } }
-    {
-        Shelf {
-            geometry: *geometry,
-            blocks,
-            count: 0,
-            entries: [BLANK; MOST],
-        }
     }
 
     fn entries(&self) -> &[IndexEntry]

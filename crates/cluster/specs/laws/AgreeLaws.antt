@@ -24,7 +24,7 @@ use Rattle.cluster.specs.declared.carried.Carried.{Carried}
 use Rattle.cluster.specs.Agreements.{Agree, IsSound, IsStanding, IsSteady}
 use Rattle.cluster.specs.Parts.{HasActed, acted}
 use Rattle.cluster.specs.Seats.{PlanNotedOf, PlanStandsOf, death_behind, joined_of}
-use Rattle.cluster.specs.Views.{PartsView, at_command, line_of, resting, seat_at, state_of}
+use Rattle.cluster.specs.Views.{PartsView, at_command, line_of, no_seat, seat_at, state_of}
 use Rattle.cluster.specs.declared.plan.Plan.{Plan}
 use Rattle.cluster.specs.declared.seat.Done.{Done}
 use Rattle.cluster.specs.declared.seat.Seat.{Seat}
@@ -70,10 +70,10 @@ module _ (v : PartsView) (h position : ℕ) (line : Line) (w : WorldView) (d : C
 
   -- the seats
   seat_here : seat_at u h ≡ seat
-  seat_here = get_or-set_same v.seats h seat (resting v.workload.geometry) (let n = sound.seats in omega (arith, below, n))
+  seat_here = get_or-set_same v.seats h seat (no_seat v.workload.geometry) (let n = sound.seats in omega (arith, below, n))
 
   seat_other : (k : ℕ) → k ≢ h → seat_at u k ≡ seat_at v k
-  seat_other k other = get_or-set_other v.seats h k seat (resting v.workload.geometry) other
+  seat_other k other = get_or-set_other v.seats h k seat (no_seat v.workload.geometry) other
 
   -- the lines
   pub line_host_is : line.host ≡ h

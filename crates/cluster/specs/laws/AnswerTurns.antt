@@ -22,16 +22,15 @@ use Rattle.recover_plan.specs.laws.JoinFinds.{dropped_rests, others_dropped}
 use Rattle.plan_parts.specs.laws.NoCallLaws.{others_same}
 use Rattle.file_plans.specs.Went.{LeavesOthers}
 use Rattle.host_facts.specs.Others.{Others}
-use Rattle.recover_plan.specs.laws.RegisterLaws.{nothing_watched}
 use Rattle.recover_plan.specs.laws.StepLaws.{ready_rests}
 use Rattle.cluster.specs.declared.carried.Carried.{Carried}
-use Rattle.cluster.specs.Carries.{fresh}
 use Rattle.watch.specs.Looks.{nothing}
 use Rattle.cluster.specs.Dropping.{IsAnsweredAtOnce, IsDroppedIn}
 use Rattle.host_runs.specs.lemmas.OrderlyPlaced.{some_same}
 use Rattle.cluster.specs.HostTurns.{IsHostTurn, turn_moment}
 use Rattle.cluster.specs.Plans.{IsResting, RestsWith}
 use Rattle.cluster.specs.Seats.{IsKnown, IsLeft, MakesTurn, PlanNotedOf, at_once, joined_of}
+use Rattle.cluster.specs.laws.FreshLaws.{fresh_noted, fresh_rests}
 use Rattle.cluster.specs.declared.plan.Plan.{Plan}
 use Rattle.cluster.specs.declared.seat.Seat.{Seat}
 use Rattle.cluster.specs.laws.AtOnceTurns.{IsAtOnce, at_once_turn, dropped_locks}
@@ -226,15 +225,11 @@ module _ (command : Command) (h : ℕ) (v : WorldView) (c : Cache) (consistent :
   dies_now : (w : WorldView) (d : Cache) (new : Seat) → command ≡ commands.Die zero → key_is ≡ true → IsDroppedIn h v w c d new
       → MakesTurn command h v w d old new (record { placed = None; ended = Some answers.Fine })
   dies_now w d new is here dropped =
-      let plan_is : new.plan ≡ None = ap (λ (s : Seat). s.plan) dropped.is in
-      let carried_is : new.carried ≡ fresh v.locks.geometry = ap (λ (s : Seat). s.carried) dropped.is in
+      let plan_is = dropped.first.plan in
       record {
         made = None;
-        stands = rw (plan_is, carried_is) (record {
-          watched = nothing_watched w h;
-          volume = sym dropped.world.notes.geometry;
-          cached = nothing_cached w c d h (resting.cached.volume ∙ sym dropped.world.notes.geometry) dropped.cache;
-        });
+        stands = rw plan_is (fresh_rests v.locks.geometry w d h new.carried dropped.first.carried (sym dropped.world.notes.geometry)
+            (nothing_cached w c d h (resting.cached.volume ∙ sym dropped.world.notes.geometry) dropped.cache));
         plan = ap is_some plan_is;
         goes = λ none. absurd cc;
         turn = λ death n noted left.
@@ -246,12 +241,11 @@ module _ (command : Command) (h : ℕ) (v : WorldView) (c : Cache) (consistent :
                   (turn_as death answers.Fine n later
                   (subst (λ (k : Command). IsAtOnce v.locks.geometry h key_is k v.locks.disk n later answers.Fine) (sym is)
                   (die_is v c h old.carried consistent zero n here rests))),
-              rw (plan_is, carried_is) (
+              rw plan_is (
                   let there = dropped_rests w h (turn_moment v.locks.geometry h key_is command v.locks.disk v.locks.disk None None n)
-                  dropped.world.notes.mine in record { rests = there.rests; watch_is = there.watch_is; pending_is = refl }
+                  dropped.world.notes.mine in fresh_noted v.locks.geometry w h new.carried dropped.first.carried later there.rests there.watch_is refl
                   ),
-              subst (λ (k : Command). IsLeft (death_after k answers.Fine death) n.dying new.left) (sym is)
-                  (ap (λ (s : Seat). s.left) dropped.is),
+              subst (λ (k : Command). IsLeft (death_after k answers.Fine death) n.dying new.left) (sym is) dropped.first.left,
             );
       }
 

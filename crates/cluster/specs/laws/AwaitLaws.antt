@@ -18,7 +18,7 @@ use Rattle.recover_plan.specs.declared.plan.Doing.{Doing}
 use Rattle.recover_plan.specs.declared.plan.Doing.TheVariants as doings
 use Rattle.watch.specs.declared.watch.Look.{Look}
 use Rattle.cluster.specs.Agreements.{Agree, IsSound, IsStanding, IsSteady}
-use Rattle.cluster.specs.Asking.{asked_with, doing_asks, plan_asks}
+use Rattle.cluster.specs.Asking.{asked_with, doing_asks, merge_asks, plan_asks}
 use Rattle.cluster.specs.Parts.{asked_by}
 use Rattle.cluster.specs.laws.HintSteps.{hints_joined, hints_wait}
 use Rattle.host_notes.specs.Owes.{joined_in}
@@ -26,9 +26,11 @@ use Rattle.cluster.specs.Plans.{IsOf}
 use Rattle.cluster.specs.Seats.{PlanNotedOf, PlanStandsOf, joined_of}
 use Rattle.cluster.specs.Views.{PartsView, seat_at, state_of}
 use Rattle.cluster.specs.declared.plan.Plan.{Plan}
-use Rattle.cluster.specs.declared.plan.Plan.TheVariants.{Collects, Files, Hints, Slots}
+use Rattle.cluster.specs.declared.plan.Plan.TheVariants.{Collects, Files, Hints, Merges, Serves, Slots}
 use Rattle.cluster.specs.laws.ActLaws.{joined_now}
+use Rattle.cluster.specs.laws.MergeSteps.{merge_waits}
 use Rattle.cluster.specs.laws.PartsLaws.{line_below}
+use Rattle.cluster.specs.laws.ServeSteps.{serve_waits}
 use Rattle.cluster.specs.laws.TurnedLaws.{command_there, line_there}
 
 -- a command that asks for no digest first, and asks for none now, waits for none
@@ -62,11 +64,10 @@ slots_wait g v h watch doings.Ended n same noted = absurd noted
 -- what is asked for with a plan of a host that is not joined
 plan_asks_none : (g : Geometry) (h : ℕ) (command : Command) (plan : Plan) → IsOf h command plan → joined_in command ≡ false
     → plan_asks g plan ≡ None
-plan_asks_none g h command (Files plan) of out = refl
-plan_asks_none g h command (Slots plan) of out = refl
-plan_asks_none g h command (Collects plan) of out = refl
 plan_asks_none g h command (Hints plan) of out =
     let both : true ≡ false = sym (hints_joined plan.doing) ∙ ap joined_in of.1 ∙ out in absurd cc
+plan_asks_none g h command (Merges plan) of out = let both : true ≡ false = ap joined_in of.1 ∙ out in absurd cc
+plan_asks_none g h command plan of out = refl
 
 module _ (v : PartsView) (h position : ℕ) (line : Line) (sound : IsSound v) (standing : IsStanding v) (steady : IsSteady v)
     (next : next_line v.workload.lines v.ledger.answers v.phase h ≡ Some position) (is : IsLine v.workload.lines position line)
@@ -109,6 +110,14 @@ module _ (v : PartsView) (h position : ℕ) (line : Line) (sound : IsSound v) (s
       subst (λ (c : Command). wants c ≡ None) (runs_line (Collects plan) some).1
       (subst (λ (k : Geometry). wanted k (commands.Collect plan.core.part) (notes h).calls (notes h).digests (notes h).asks ≡ None) sound.geometry
       agreed.0.noted.wants)
+  waits (Some (Serves plan)) some true joined agreed =
+      subst (λ (c : Command). wants c ≡ None) (runs_line (Serves plan) some).1
+      (subst (λ (k : Geometry). wanted k commands.Serve (notes h).calls (notes h).digests (notes h).asks ≡ None) sound.geometry
+      (serve_waits v.world h plan.counts plan.doing (notes h) agreed.0))
+  waits (Some (Merges plan)) some true joined agreed =
+      subst (λ (c : Command). wants c ≡ merge_asks plan.doing) (runs_line (Merges plan) some).1
+      (subst (λ (k : Geometry). wanted k commands.Merge (notes h).calls (notes h).digests (notes h).asks ≡ merge_asks plan.doing) sound.geometry
+      (merge_waits v.world h (seat_at v h).carried plan.doing (notes h) agreed.0))
   waits (Some (Hints plan)) some true joined agreed =
       subst (λ (c : Command). wants c ≡ doing_asks g plan.doing) (runs_line (Hints plan) some).1
       (hints_wait g v.world h (seat_at v h).carried.pending.entries sound.geometry plan.doing (notes h) agreed.0)

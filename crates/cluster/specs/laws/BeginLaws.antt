@@ -1,6 +1,7 @@
 -- A command at its beginning: which answers need no plan, and what stands before the first step of one.
 use Rattle.std.proofs.Common.{◌≡◌, ◌≢◌, inl, inr, ◌<◌, ◌++◌, ◌∷◌, ℕ, Bool, true, false, IsTrue, nat_lt, List, [], Option, Some, None, is_some, refl, ap, sym, subst, ◌∙◌}
 use Rattle.std.proofs.lemmas.Bool.{and_parts, ltb-true}
+use Rattle.vol_base.specs.declared.answer.ServeCounts.{ServeCounts}
 use Rattle.vol_base.specs.declared.block.Digest.{Digest}
 use Rattle.vol_base.specs.declared.block.Key.{Key}
 use Rattle.vol_base.specs.declared.command.Command.{Command}
@@ -28,6 +29,9 @@ use Rattle.lock_store.specs.Views.{host_at}
 use Rattle.lock_store.specs.declared.host.HostState.{HostState}
 use Rattle.plan_parts.specs.Steps.{IsAtRest, IsReady}
 use Rattle.plain_files.specs.Calls.{file_no}
+use Rattle.merge_plan.specs.Plans as merges
+use Rattle.merge_plan.specs.declared.plan.Doing as merge_doings
+use Rattle.merge_plan.specs.laws.StillLaws as merge_laws
 use Rattle.recover_plan.specs.Nexts as slots
 use Rattle.hint_plans.specs.Nexts as hint_steps
 use Rattle.hint_plans.specs.Plans as hints
@@ -37,6 +41,10 @@ use Rattle.recover_plan.specs.Plans.{Agrees, PlanStands, command_of}
 use Rattle.recover_plan.specs.declared.plan.Doing.{Doing}
 use Rattle.recover_plan.specs.laws.FirstLaws.{first_noted, first_stands}
 use Rattle.recover_plan.specs.laws.StepLaws.{ready_key}
+use Rattle.serve_plan.specs.Plans as serves
+use Rattle.serve_plan.specs.declared.plan.Doing as serve_doings
+use Rattle.serve_plan.specs.declared.plan.Doing.TheVariants as serve_stages
+use Rattle.serve_plan.specs.laws.StillLaws.{serve_begins}
 use Rattle.share_plans.specs.Gatherings as collections
 use Rattle.share_plans.specs.declared.collection.Collection.{Collection}
 use Rattle.share_plans.specs.declared.collection.Gathering.{Gathering}
@@ -44,13 +52,13 @@ use Rattle.share_plans.specs.laws.GatheringStays.{begun, collect_begins, collect
 use Rattle.vol_base.specs.declared.plain.PlainReply.{PlainReply}
 use Rattle.vol_base.specs.declared.plain.PlainReply.TheVariants.{Done}
 use Rattle.workload.specs.Ranges.{is_in_range, is_narrow}
-use Rattle.cluster.specs.Asking.{asked_with, doing_asks, plan_asks}
+use Rattle.cluster.specs.Asking.{asked_with, doing_asks, merge_asks, plan_asks}
 use Rattle.cluster.specs.Carries.{HasDigest}
 use Rattle.cluster.specs.Plans.{IsBegun, IsOf, IsResting, PlanAt, PlanNoted, RestsWith}
 use Rattle.cluster.specs.declared.carried.Carried.{Carried}
 use Rattle.cluster.specs.Seats.{RestsAs, at_once}
 use Rattle.cluster.specs.declared.plan.Plan.{Plan}
-use Rattle.cluster.specs.declared.plan.Plan.TheVariants.{Collects, Files, Hints, Slots}
+use Rattle.cluster.specs.declared.plan.Plan.TheVariants.{Collects, Files, Hints, Merges, Serves, Slots}
 
 -- a command that is not answered at once is one of a joined host, or a `join` of one that is not
 pub joined_is : (command : Command) (joined : Bool) → at_once command joined ≡ None → joined ≡ joined_in command
@@ -99,6 +107,8 @@ of_begun h command (Slots plan) is = (is.0, ap command_of is.1 ∙ command_first
     command_first h (commands.Recover y) of = refl
     command_first h command of = absurd of
 of_begun h command (Hints plan) is = (is.0, ap hints.command_of is.1 ∙ hint_command command is.2)
+of_begun h command (Serves plan) is = (is.0, is.1)
+of_begun h command (Merges plan) is = (is.0, is.1)
 of_begun h command (Collects plan) is =
     (ap (λ (x : Collection). x.host) is.core, ap (λ (x : Collection). commands.Collect x.part) is.core ∙ sym is.command_is)
 
@@ -178,6 +188,17 @@ module _ (v : WorldView) (c : Cache) (h : ℕ) (carried : Carried) (consistent :
         (record { host = below; ready = ready_of v h rests (joined ∙ hint_joined command of); volume = resting.volume })),
     resting,
   )
+  begun_at (Serves plan) (host, serve, counts, doing) = (
+    subst (λ (x : serve_doings.Doing). serves.PlanStands v h plan.counts x) (sym doing)
+        (subst (λ (x : ServeCounts). serves.PlanStands v h x serve_stages.Begins) (sym counts)
+        (serve_begins v h (ready_of v h rests (joined ∙ ap joined_in (sym serve))) below)),
+    resting,
+  )
+  begun_at (Merges plan) (host, merge, doing) = (
+    subst (λ (x : merge_doings.Doing). merges.PlanStands v h carried.room x) (sym doing)
+        (merge_laws.merge_begins v h carried.room (ready_of v h rests (joined ∙ ap joined_in (sym merge))) below),
+    resting,
+  )
   begun_at (Collects plan) is =
       let ready = ready_of v h rests (joined ∙ ap joined_in is.command_is) in
       let part = subst (λ (k : Command). IsTrue (is_in_range v.locks.geometry k)) is.command_is range in (
@@ -223,6 +244,16 @@ begun_noted v h carried command (Hints plan) n none (host, doing, of) rests = (
       (hint_laws.first_noted v h carried.pending.entries n (record { rests = rests.rests; pending_is = rests.pending_is }) command of),
   rests.watch_is,
 )
+begun_noted v h carried command (Serves plan) n none (host, serve, counts, doing) rests = (
+  subst (λ (x : serve_doings.Doing). serves.Agrees h v plan.counts x n) (sym doing) rests.rests,
+  rests.watch_is,
+  rests.pending_is,
+)
+begun_noted v h carried command (Merges plan) n none (host, merge, doing) rests = (
+  subst (λ (x : merge_doings.Doing). merges.Agrees h v carried.pending.entries carried.room x n) (sym doing)
+      (merge_laws.begun_noted h v carried.pending.entries carried.room n (record { rests = rests.rests; pending_is = rests.pending_is })),
+  rests.watch_is,
+)
 begun_noted v h carried command (Collects plan) n none is rests = (
   subst (λ (x : Collection). collections.NotedAt v x plan.stage n) (sym is.core)
       (subst (λ (s : Gathering). collections.NotedAt v (begun h is.part) s n) (sym is.stage) (collect_noted v h is.part n rests.rests)),
@@ -262,7 +293,6 @@ begun_doing g command of none = absurd of
 
 pub begun_asks : (g : Geometry) (h : ℕ) (command : Command) (plan : Plan) → IsBegun h command plan → first_block g command ≡ None
     → plan_asks g plan ≡ None
-begun_asks g h command (Files plan) begun none = refl
-begun_asks g h command (Slots plan) begun none = refl
-begun_asks g h command (Collects plan) begun none = refl
 begun_asks g h command (Hints plan) begun none = ap (doing_asks g) begun.1 ∙ begun_doing g command begun.2 none
+begun_asks g h command (Merges plan) begun none = ap merge_asks begun.2
+begun_asks g h command plan begun none = refl

@@ -100,7 +100,7 @@ budget_begins v used long resting zeros = record {
     long = long;
     free = λ h host none. zeros h host;
     within = λ h host.
-        subst (λ (p : Option Plan). used_at used h + seat_left v.world v.cache p < 2 ^ 28) (sym (resting h host))
+        subst (λ (p : Option Plan). used_at used h + seat_left v.world v.cache (seat_at v h).carried p < 2 ^ 28) (sym (resting h host))
         (let none = zeros h host in omega (arith, none));
   };
   is = let none = all_zero used (λ h below. zeros h (omega (arith, below, long))) in omega (arith, none);
@@ -156,8 +156,8 @@ module _ (v : PartsView) (h : ℕ) (u : PartsView) (used : List ℕ) (left : ℕ
   pub used_limit : used_at used h + turn_limit_of v h < 2 ^ 28
   used_limit = cases (seat_at v h).plan refl (budget.are.within h host)
     where
-      cases : (plan : Option Plan) → (seat_at v h).plan ≡ plan → used_at used h + seat_left v.world v.cache plan < 2 ^ 28
-          → used_at used h + turn_limit v.world v.cache plan < 2 ^ 28
+      cases : (plan : Option Plan) → (seat_at v h).plan ≡ plan → used_at used h + seat_left v.world v.cache (seat_at v h).carried plan < 2 ^ 28
+          → used_at used h + turn_limit v.world v.cache (seat_at v h).carried plan < 2 ^ 28
       cases None is few = let none = budget.are.free h host is in omega (arith, none)
       cases (Some plan) is few = few
 
@@ -204,7 +204,7 @@ module _ (v : PartsView) (h : ℕ) (u : PartsView) (used : List ℕ) (left : ℕ
   budget_ends ended standing =
       let limit = used_limit in
       let used' = used_now ended.others 0 (λ none. refl)
-      (subst (λ (p : Option Plan). 0 + seat_left u.world u.cache p < 2 ^ 28) (sym ended.free) (omega arith)) in
+      (subst (λ (p : Option Plan). 0 + seat_left u.world u.cache (seat_at u h).carried p < 2 ^ 28) (sym ended.free) (omega arith)) in
       let few = sum_few u (now 0) used' standing in
       let all = sum_now 0 in
       let is = budget.is in

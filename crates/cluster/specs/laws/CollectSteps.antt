@@ -26,13 +26,11 @@ use Rattle.share_plans.specs.declared.collection.Gathered.{Gathered}
 use Rattle.share_plans.specs.declared.collection.Gathered.TheVariants as gathered
 use Rattle.share_plans.specs.declared.collection.Gathering.{Gathering}
 use Rattle.cluster.specs.Carries.{carried_behind}
-use Rattle.cluster.specs.Plans.{ForgetsBehind, HasStepped, IsResting, PlanAt, PlanNoted}
+use Rattle.cluster.specs.Plans.{ForgetsBehind, HasStepped, IsResting, NotedBehind, PlanAt, PlanNoted, StandsBehind}
 use Rattle.cluster.specs.declared.carried.Carried.{Carried}
-use Rattle.cluster.specs.laws.PendingLaws.{hints_volume, pending_step}
-use Rattle.file_plans.specs.Bases.{IsCached}
 use Rattle.cluster.specs.declared.plan.Plan.TheVariants.{Collects}
 use Rattle.cluster.specs.laws.SlotSteps.{KeepsFileTables, kept}
-use Rattle.cluster.specs.laws.VolumeSteps.{Watching, volume_owes, volume_watched}
+use Rattle.cluster.specs.laws.VolumeSteps.{Carrying, as_made, plan_step}
 
 of_file : (g : Geometry) (t : Table) → IsFileTable g t → IsOfFile t
 of_file g (tables.File f) is = tt
@@ -58,42 +56,17 @@ module _ (v w : WorldView) (c d : Cache) (h : ℕ) (carried : Carried) (old new 
   abbrev after : Next → Carried
   after next = carried_behind command next carried
 
-  volume_now : (next : Next) → (after next).pending.geometry ≡ w.locks.geometry
-  volume_now next = hints_volume command next carried.digest carried.pending ∙ at.1.volume ∙ sym others.locks.lasts.geometry
-
-  watching : (n : Notes) × Watching Before carried.watch n
-  watching = (some.0, (some.1.0, some.1.1))
-
-  module _ (step : Step) (After : Notes → Type 0)
+  -- what it made is a step of a plan, and the tables of files that are known stay, but behind a cut
+  module _ (next : Next) (After : Notes → Type 0)
       (is : (n : Notes) → After n → IsRemembered w.locks.geometry n.memory (host_at w.locks h))
-      (owed : OwesStep command h v w step Before After) where
-    owes_all : OwesStep command h v w step (λ n. PlanNoted command v h carried (Collects old) n)
-        (λ n. After n × (n.watch ≡ (after step.next).watch) × (n.pending ≡ (after step.next).pending.entries))
-    owes_all =
-        let owes = volume_owes command tt v w h carried.watch others at.1.watched Before was watching step After is owed in record {
-          made = owes.made;
-          called = owes.called;
-          others = owes.others;
-          quiet = λ n noted. owes.quiet n (noted.0, noted.1);
-          owes = λ n noted.
-              let (later, does, behind) = owes.owes n (noted.0, noted.1) in (
-                later,
-                does,
-                (
-                  behind.0,
-                  behind.1,
-                  pending_step v.locks.geometry h command v.locks.disk w.locks.disk owes.made step.placed n later carried.digest step.next
-                      carried.pending tt does noted.2 tt,
-                ),
-              );
-        }
-
-    rests_all : IsCached w d h → IsResting w d h (after step.next)
-    rests_all cached = record {
-      watched = volume_watched command tt v w h carried.watch others at.1.watched Before was watching step After is owed;
-      volume = volume_now step.next;
-      cached = cached;
-    }
+      (owed : OwesStep command h v w (called_step next) Before After)
+      (keeps : ((by : CutBy) → next ≢ nexts.Answered (answers.Cut by)) → KeepsFileTables h v w) (forgets : ForgetsBehind next h c d) where
+    steps : ((n : Notes) → Carrying After (after next) n → NotedBehind command w h (after next) (Collects new) next n)
+        → (IsResting w d h (after next) → StandsBehind command w d h (after next) (Collects new) next)
+        → HasStepped command h v w d carried (after next) (Collects old) (Collects new) (called_step next)
+    steps noted_behind stands_behind =
+        plan_step command tt tt v w c h carried others at.1 Before was some (called_step next) After is owed (Collects old) (Collects new) carried d
+        (λ n noted. noted) noted_behind stands_behind (kept v w c c d h others at.1.cached refl next keeps forgets)
 
   -- it goes on
   module _ (went : Went v w old.core new.core old.stage (gathered.More new.stage)) (forgets : ForgetsBehind nexts.More h c d) where
@@ -110,41 +83,19 @@ module _ (v w : WorldView) (c d : Cache) (h : ℕ) (carried : Carried) (old new 
     agrees n noted = subst (λ (x : ℕ). IsRemembered w.locks.geometry n.memory (host_at w.locks x)) here noted.noted.remembered
 
     goes_on : HasStepped command h v w d carried (after nexts.More) (Collects old) (Collects new) (called_step nexts.More)
-    goes_on = record {
-      owes = owes_all (called_step nexts.More) Later agrees owed;
-      stands = (
-        (here, ap commands.Collect went.same.part),
-        (
-          went.stands,
-          rests_all (called_step nexts.More) Later agrees owed
-              (kept v w c c d h others at.1.cached refl nexts.More (λ uncut. keeps_files went.tables_stay) forgets),
-        ),
-      );
-    }
+    goes_on =
+        steps nexts.More Later agrees owed (λ uncut. keeps_files went.tables_stay) forgets (λ n noted. noted)
+        (λ rests. ((here, ap commands.Collect went.same.part), (went.stands, rests)))
 
   -- it is answered, or cut
   module _ (answer : Answer) (owed : OwesStep command h v w (called_step (nexts.Answered answer)) Before (λ n. IsAtRest w h n))
       (keeps : ((by : CutBy) → nexts.Answered answer ≢ nexts.Answered (answers.Cut by)) → KeepsFileTables h v w)
       (forgets : ForgetsBehind (nexts.Answered answer) h c d) where
-    remembered : (n : Notes) → IsAtRest w h n → IsRemembered w.locks.geometry n.memory (host_at w.locks h)
-    remembered n rest = rest.remembered
-
     ends : HasStepped command h v w d carried (after (nexts.Answered answer)) (Collects old) (Collects new)
         (called_step (nexts.Answered answer))
     ends =
-        let owes = owes_all (called_step (nexts.Answered answer)) (λ n. IsAtRest w h n) remembered owed in record {
-          owes = record {
-            made = owes.made;
-            called = owes.called;
-            others = owes.others;
-            quiet = owes.quiet;
-            owes = λ n noted.
-                let (later, does, behind) = owes.owes n noted in
-                (later, does, record { rests = behind.0; watch_is = behind.1; pending_is = behind.2 });
-          };
-          stands = rests_all (called_step (nexts.Answered answer)) (λ n. IsAtRest w h n) remembered owed
-              (kept v w c c d h others at.1.cached refl (nexts.Answered answer) keeps forgets);
-        }
+        steps (nexts.Answered answer) (λ n. IsAtRest w h n) (λ n rest. rest.remembered) owed keeps forgets
+        (λ n noted. record { rests = noted.0; watch_is = noted.1; pending_is = noted.2 }) (λ rests. rests)
 
   -- by the step that came
   module _ (then : Carried) (step : Step) (then_is : then ≡ after step.next) (forgets : ForgetsBehind step.next h c d) where
@@ -152,9 +103,8 @@ module _ (v w : WorldView) (c d : Cache) (h : ℕ) (carried : Carried) (old new 
         → (ForgetsBehind next h c d → HasStepped command h v w d carried (after next) (Collects old) (Collects new) (called_step next))
         → HasStepped command h v w d carried then (Collects old) (Collects new) step
     by_step next step_is stepped =
-        subst (λ (k : Carried). HasStepped command h v w d carried k (Collects old) (Collects new) step) (sym then_is)
-        (subst (λ (s : Step). HasStepped command h v w d carried (after s.next) (Collects old) (Collects new) s) (sym step_is)
-        (stepped (subst (λ (s : Step). ForgetsBehind s.next h c d) step_is forgets)))
+        as_made command tt tt v w c h carried others at.1 Before was some (Collects old) (Collects new) carried c d then step (called_step next) then_is
+        step_is forgets stepped
 
     went_step : (came : Gathered) → Went v w old.core new.core old.stage came → step ≡ called_step (next_of came) → new.stage ≡ stage_of came
         → HasStepped command h v w d carried then (Collects old) (Collects new) step

@@ -28,8 +28,12 @@ use Rattle.host_notes.specs.Owes.{joined_in}
 use Rattle.host_runs.specs.Awaited.{first_block}
 use Rattle.host_runs.specs.Notes.{Notes, with_digest}
 use Rattle.lock_store.specs.Views.{host_at}
+use Rattle.merge_plan.specs.Plans.{Agrees, PlanStands, left}
+use Rattle.merge_plan.specs.Plans.{IsAsking as IsAskingMerge}
+use Rattle.merge_plan.specs.declared.plan.Doing as merges
+use Rattle.merge_plan.specs.declared.plan.MergePlan.{MergePlan}
 use Rattle.workload.specs.Ranges.{is_in_range}
-use Rattle.cluster.specs.Asking.{asked_with, doing_asks, plan_asks}
+use Rattle.cluster.specs.Asking.{asked_with, doing_asks, merge_asks, plan_asks}
 use Rattle.cluster.specs.Carries.{HasDigest}
 use Rattle.cluster.specs.Hands.{AsksFirst, IsAsking, IsBefore, IsSuppliedIn, MayHandInOf}
 use Rattle.cluster.specs.PlanTurns.{plan_left, turn_limit}
@@ -37,9 +41,10 @@ use Rattle.cluster.specs.Plans.{IsBegun, IsOf, IsResting, PlanAt, PlanNoted, Res
 use Rattle.cluster.specs.Seats.{PlanNotedOf, PlanStandsOf, at_once}
 use Rattle.cluster.specs.declared.carried.Carried.{Carried}
 use Rattle.cluster.specs.declared.plan.Plan.{Plan}
-use Rattle.cluster.specs.declared.plan.Plan.TheVariants.{Collects, Files, Hints, Slots}
+use Rattle.cluster.specs.declared.plan.Plan.TheVariants.{Files, Hints, Merges}
 use Rattle.cluster.specs.laws.BeginLaws.{begun_at, of_begun, supplied_at, supplied_noted}
 use Rattle.cluster.specs.laws.HintSteps.{hints_wait}
+use Rattle.cluster.specs.laws.MergeSteps.{asks_merge, merge_handed}
 use Rattle.cluster.specs.laws.PlanTurnLaws.{hint_few, supplied_few}
 
 -- what is asked for tells that a digest may be handed in
@@ -58,11 +63,10 @@ pub may_hand : (v : WorldView) (c : Cache) (h : ℕ) (g : Geometry) (command : C
     → MayHandInOf command carried.pending.geometry plan
 may_hand v c h g command carried None true digest some stands = asks_first g command some
 may_hand v c h g command carried None false digest some stands = absurd cc
-may_hand v c h g command carried (Some (Files plan)) key digest some stands = absurd cc
-may_hand v c h g command carried (Some (Slots plan)) key digest some stands = absurd cc
-may_hand v c h g command carried (Some (Collects plan)) key digest some stands = absurd cc
 may_hand v c h g command carried (Some (Hints plan)) key digest some stands =
     (asks_doing g plan.doing some, supply_may v h carried.pending digest plan.doing stands.1.0)
+may_hand v c h g command carried (Some (Merges plan)) key digest some stands = (asks_merge plan.doing some, tt)
+may_hand v c h g command carried (Some plan) key digest some stands = absurd cc
 
 -- a host that takes a digest is joined
 first_joined : (command : Command) → AsksFirst command → joined_in command ≡ true
@@ -185,7 +189,7 @@ pub record IsHandled (v : WorldView) (c : Cache) (h : ℕ) (command : Command) (
     (after : Plan) : Type 0 where
   pub stands : PlanStandsOf command v c h later (Some after)
   pub noted : (n : Notes) → PlanNotedOf command v h carried plan n → PlanNoted command v h later after (with_digest digest n)
-  pub fewer : plan_left v c after < turn_limit v c plan
+  pub fewer : plan_left v c later after < turn_limit v c carried plan
   pub asks : plan_asks v.locks.geometry after ≡ None
 
 module _ (v : WorldView) (c : Cache) (h : ℕ) (command : Command) (digest : Digest) (carried later : Carried) (consistent : Consistent v.locks)
@@ -205,15 +209,27 @@ module _ (v : WorldView) (c : Cache) (h : ℕ) (command : Command) (digest : Dig
     asks = ap (doing_asks v.locks.geometry) is.1 ∙ taken_asks v.locks.geometry digest plan.doing (asks_doing v.locks.geometry plan.doing asks);
   }
 
+  merge_goes_on : (plan after : MergePlan) → IsSome (merge_asks plan.doing) → PlanStandsOf command v c h carried (Some (Merges plan))
+      → IsSuppliedIn digest carried later (Merges plan) (Merges after) → Handled (Some (Merges plan)) (Merges after)
+  merge_goes_on plan after asks (of, at) (host, is, same) =
+      let now = merge_handed v h carried digest plan.doing (asks_merge plan.doing asks) at.0 in record {
+        stands = subst (λ (k : Carried). PlanStandsOf command v c h k (Some (Merges after))) (sym same)
+            ((host ∙ of.0, of.1), (subst (λ (d : merges.Doing). PlanStands v h carried.room d) (sym is) now.stands, at.1));
+        noted = λ m agrees.
+            subst (λ (k : Carried). PlanNoted command v h k (Merges after) (with_digest digest m)) (sym same)
+            (subst (λ (d : merges.Doing). Agrees h v carried.pending.entries carried.room d (with_digest digest m)) (sym is) (now.noted m agrees.0), agrees.1);
+        fewer = subst (λ (k : Carried). plan_left v c k (Merges after) < plan_left v c carried (Merges plan)) (sym same)
+            (subst (λ (d : merges.Doing). left carried.room d < left carried.room plan.doing) (sym is) now.fewer);
+        asks = ap merge_asks is ∙ now.asks;
+      }
+
   some_handled : (plan after : Plan) → IsSome (plan_asks v.locks.geometry plan) → PlanStandsOf command v c h carried (Some plan) → (n : Notes)
       → PlanNotedOf command v h carried (Some plan) n → IsSuppliedIn digest carried later plan after → Handled (Some plan) after
-  some_handled (Files plan) after asks stands n noted is = absurd cc
-  some_handled (Slots plan) after asks stands n noted is = absurd cc
-  some_handled (Collects plan) after asks stands n noted is = absurd cc
-  some_handled (Hints plan) (Files after) asks stands n noted is = absurd is
-  some_handled (Hints plan) (Slots after) asks stands n noted is = absurd is
-  some_handled (Hints plan) (Collects after) asks stands n noted is = absurd is
   some_handled (Hints plan) (Hints after) asks stands n noted is = goes_on plan after asks stands n noted is
+  some_handled (Hints plan) after asks stands n noted is = absurd is
+  some_handled (Merges plan) (Merges after) asks stands n noted is = merge_goes_on plan after asks stands is
+  some_handled (Merges plan) after asks stands n noted is = absurd is
+  some_handled plan after asks stands n noted is = absurd cc
 
   -- a command that begins
   module _ (key : is_some (host_at v.locks h).key ≡ true) (first : AsksFirst command) (resting : IsResting v c h carried) (some : (n : Notes) × RestsWith h v carried n)
@@ -228,7 +244,7 @@ module _ (v : WorldView) (c : Cache) (h : ℕ) (command : Command) (digest : Dig
       file_begins before after begun asks is = record {
         stands = file_stands v c h command digest carried later before after begun asks is (begun_here (Files before) begun).0 resting;
         noted = λ n rests. file_noted v c h command digest carried later before after begun asks is n rests;
-        fewer = supplied_few v c h command before after consistent.geometry begun asks (begun_here (Files before) begun).0 is.0 is.1;
+        fewer = supplied_few v c h later command before after consistent.geometry begun asks (begun_here (Files before) begun).0 is.0 is.1;
         asks = refl;
       }
 
@@ -267,6 +283,7 @@ module _ (v : WorldView) (c : Cache) (h : ℕ) (command : Command) (digest : Dig
           → IsSuppliedIn digest carried later before after → Handled None after
       none_handled (Files before) (Files after) begun asks wants is = file_begins before after begun asks is
       none_handled (Hints before) (Hints after) begun asks wants is = hint_begins before after begun asks wants is
+      none_handled (Merges before) after begun asks wants is = absurd (subst IsAskingMerge begun.2 asks)
       none_handled before after begun asks wants is = absurd is
 
   pub handled : (plan : Option Plan) (key : Bool) (before after : Plan) → is_some (host_at v.locks h).key ≡ key

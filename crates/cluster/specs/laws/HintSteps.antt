@@ -231,6 +231,6 @@ module _ (v w : WorldView) (c d : Cache) (h : ℕ) (carried : Carried) (pending 
   come_left (comes.Uncalled answer) came more is = absurd cc
   come_left (comes.Works later block) came more is = absurd cc
 
-  pub hint_sooner : (step : Step) → steps.HasStepped h v w carried.pending pending old.doing new.doing step
-      → IsSooner v c (Hints old) w d (Hints new) step.next
-  hint_sooner step did more = come_left did.come did.came (sym (ap (λ (s : Step). s.next) did.step_is) ∙ more) did.later_is
+  pub hint_sooner : (step : Step) (then : Carried) → steps.HasStepped h v w carried.pending pending old.doing new.doing step
+      → IsSooner v c carried (Hints old) w d then (Hints new) step.next
+  hint_sooner step then did more = come_left did.come did.came (sym (ap (λ (s : Step). s.next) did.step_is) ∙ more) did.later_is

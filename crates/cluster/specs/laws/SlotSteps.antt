@@ -63,7 +63,7 @@ module _ (v w : WorldView) (c d e : Cache) (h : ℕ) (others : Others h v w) (wa
         (keeps t p of_file known.0, subst (λ (g : Geometry). IsPackingOf g t p) (sym geometry) known.1);
   }
 
-  forgotten : ForgetsHost c d h → (next : Next) → ForgetsBehind next h d e → IsCached w e h
+  pub forgotten : ForgetsHost c d h → (next : Next) → ForgetsBehind next h d e → IsCached w e h
   forgotten first (nexts.Answered (Cut by)) then = nothing_cached w d e h (first.volume ∙ was.volume ∙ sym geometry) then
   forgotten first next then = subst (λ (k : Cache). IsCached w k h) (sym then) (nothing_cached w c d h (was.volume ∙ sym geometry) first)
 

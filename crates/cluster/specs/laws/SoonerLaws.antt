@@ -10,8 +10,8 @@ use Rattle.cluster.specs.Agreements.{IsSound, IsStanding, IsSteady}
 use Rattle.host_runs.specs.RunStates.{answered}
 use Rattle.cluster.specs.LinesLeft.{lines_left}
 use Rattle.cluster.specs.Parts.{HasTaken, IsCommandAt, IsNoted, IsStepped, asked_at, asked_by, asked_of}
-use Rattle.cluster.specs.PlanTurns.{GoesSooner, HasEnded, HasGoneOn, IsSuppliedFor, IsSuppliedTurns, LeavesTurns, seat_left, seat_left_of, turn_limit}
-use Rattle.cluster.specs.Views.{PartsView, at_command, line_of, resting, seat_at}
+use Rattle.cluster.specs.PlanTurns.{GoesSooner, HasEnded, HasGoneOn, IsSuppliedFor, IsSuppliedTurns, LeavesTurns, plan_left, seat_left, seat_left_of, turn_limit_of}
+use Rattle.cluster.specs.Views.{PartsView, at_command, line_of, no_seat, seat_at}
 use Rattle.cluster.specs.declared.plan.Plan.{Plan}
 use Rattle.cluster.specs.declared.seat.Done.{Done}
 use Rattle.cluster.specs.declared.seat.Seat.{Seat}
@@ -37,11 +37,11 @@ module _ (v m : PartsView) (h : ℕ) (command : Command) (done : Done) (sound : 
   seat_here : seat_at m h ≡ seat
   seat_here =
       ap (λ (x : PartsView). seat_at x h) stepped.is
-      ∙ get_or-set_same v.seats h seat (resting v.workload.geometry) (let n = sound.seats in omega (arith, below, n))
+      ∙ get_or-set_same v.seats h seat (no_seat v.workload.geometry) (let n = sound.seats in omega (arith, below, n))
 
   seat_other : (k : ℕ) → k ≢ h → seat_at m k ≡ seat_at v k
   seat_other k other =
-      ap (λ (x : PartsView). seat_at x k) stepped.is ∙ get_or-set_other v.seats h k seat (resting v.workload.geometry) other
+      ap (λ (x : PartsView). seat_at x k) stepped.is ∙ get_or-set_other v.seats h k seat (no_seat v.workload.geometry) other
 
   plan_other : (k : ℕ) → k ≢ h → (seat_at m k).plan ≡ (seat_at v k).plan
   plan_other k other = ap (λ (s : Seat). s.plan) (seat_other k other)
@@ -51,7 +51,7 @@ module _ (v m : PartsView) (h : ℕ) (command : Command) (done : Done) (sound : 
     workload = ap (λ (x : PartsView). x.workload) stepped.is;
     plan = plan_other;
     left = λ k host other.
-        subst (λ (p : Option Plan). seat_left m.world m.cache p ≤ seat_left_of v k) (sym (plan_other k other))
+        subst (λ (s : Seat). seat_left m.world m.cache s.carried s.plan ≤ seat_left_of v k) (sym (seat_other k other))
         (seat_stays v.world m.world v.cache m.cache k h consistent stepped.act.others stepped.act.leaves other (seat_at v k).carried (at_command v k)
         (seat_at v k).plan (standing.stands k host));
   }
@@ -69,7 +69,7 @@ module _ (v m : PartsView) (h : ℕ) (command : Command) (done : Done) (sound : 
         ap (λ (x : PartsView). lines_left x.workload.lines (answered position done.ended x.ledger.answers) x.phase) stepped.is
         ∙ ap (λ (e : Option Answer). lines_left v.workload.lines (answered position e v.ledger.answers) v.phase) is
 
-    pub gone_on : GoesSooner v.world v.cache (seat_at v h).plan m.world m.cache (seat_at m h).plan done.ended → done.ended ≡ None → HasGoneOn v h u
+    pub gone_on : GoesSooner v.world v.cache (seat_at v h) m.world m.cache (seat_at m h) done.ended → done.ended ≡ None → HasGoneOn v h u
     gone_on sooner on =
         subst (λ (x : PartsView). HasGoneOn v h x) (sym noted.is)
         (record {
@@ -117,15 +117,16 @@ module _ (v : PartsView) (h position : ℕ) (sound : IsSound v) (standing : IsSt
       plan_here : (seat_at started h).plan ≡ Some taken.handed.taken.after
       plan_here = ap (λ (s : Seat). s.plan) begun_here ∙ ap (λ (s : Seat). s.plan) taken.handed.taken.is
 
-      plan_same : (k : ℕ) → k ≢ h → (seat_at started k).plan ≡ (seat_at v k).plan
-      plan_same k other = ap (λ (s : Seat). s.plan) (get_or-set_other v.seats h k taken.seat (resting v.workload.geometry) other)
+      seat_same : (k : ℕ) → k ≢ h → seat_at started k ≡ seat_at v k
+      seat_same k other = get_or-set_other v.seats h k taken.seat (no_seat v.workload.geometry) other
 
       handled_now : IsHandled v.world v.cache h command digest (seat_at v h).carried taken.seat.carried (seat_at v h).plan taken.handed.taken.after
       handled_now = handled_here v h position sound standing steady next command at digest consistent asks u taken
 
-      few : seat_left v.world v.cache (seat_at started h).plan < turn_limit v.world v.cache (seat_at v h).plan
+      few : seat_left v.world v.cache (seat_at started h).carried (seat_at started h).plan < turn_limit_of v h
       few =
-          subst (λ (p : Option Plan). seat_left v.world v.cache p < turn_limit v.world v.cache (seat_at v h).plan) (sym plan_here) handled_now.fewer
+          subst (λ (p : Option Plan). seat_left v.world v.cache (seat_at started h).carried p < turn_limit_of v h) (sym plan_here)
+          (subst (λ (s : Seat). plan_left v.world v.cache s.carried taken.handed.taken.after < turn_limit_of v h) (sym begun_here) handled_now.fewer)
 
       line_asks : (line : Option Line) → asked_at started h line ≡ None
       line_asks None = refl
@@ -139,9 +140,9 @@ module _ (v : PartsView) (h position : ℕ) (sound : IsSound v) (standing : IsSt
         sooner = few;
         others = record {
           workload = refl;
-          plan = plan_same;
+          plan = λ k other. ap (λ (s : Seat). s.plan) (seat_same k other);
           left = λ k host other.
-              subst (λ (p : Option Plan). seat_left v.world v.cache p ≤ seat_left_of v k) (sym (plan_same k other)) (omega arith);
+              subst (λ (s : Seat). seat_left v.world v.cache s.carried s.plan ≤ seat_left_of v k) (sym (seat_same k other)) (omega arith);
         };
       }
 

@@ -3,7 +3,7 @@ use Rattle.std.proofs.Common.{◌≡◌, inl, inr, ◌+◌, ◌++◌, ◌<◌, �
 use Rattle.std.proofs.Math.ListN.{get_or-append}
 use Rattle.std.proofs.Math.Seq.{get_or-append_seam}
 use Rattle.std.proofs.lemmas.Bool.{cases_eq}
-use Rattle.std.proofs.lemmas.List.{length-append, length-replicate, replicate-append-replicate}
+use Rattle.std.proofs.lemmas.List.{length-append, length-replicate}
 use Rattle.vol_base.specs.declared.answer.Answer.{Answer}
 use Rattle.vol_base.specs.declared.command.Command.{Command}
 use Rattle.workload.specs.Workloads.{IsWorkload}
@@ -20,8 +20,7 @@ use Rattle.histories.specs.laws.PhaseLaws.{phase-workload, phased-workload}
 use Rattle.host_notes.specs.laws.KeyMemories.{remembered_start}
 use Rattle.host_runs.specs.DeviceCalls.{OnImage}
 use Rattle.host_runs.specs.Notes.{no_notes}
-use Rattle.recover_plan.specs.laws.RegisterLaws.{nothing_watched}
-use Rattle.cluster.specs.Carries.{fresh}
+use Rattle.cluster.specs.Carries.{IsFresh}
 use Rattle.cluster.specs.Agreements.{Agree, IsHead, IsKnownLine, IsSound, IsStanding, given_in}
 use Rattle.cluster.specs.Parts.{IsOpenFrom}
 use Rattle.cluster.specs.Plans.{IsResting}
@@ -29,10 +28,12 @@ use Rattle.cluster.specs.Budgets.{IsMeasured, used_at}
 use Rattle.cluster.specs.Runs.{Inv, LeadsTo, Led}
 use Rattle.cluster.specs.Seats.{PlanNotedOf, PlanStandsOf}
 use Rattle.cluster.specs.Starts.{AreFirst, IsRoomFor, first_budget, first_cluster, first_parts}
-use Rattle.cluster.specs.Views.{BudgetView, LedgerView, PartsView, at_command, resting, seat_at, state_of}
-use Rattle.cluster.specs.declared.seat.Seat.{Seat}
+use Rattle.cluster.specs.Views.{BudgetView, IsFirstSeat, LedgerView, PartsView, at_command, no_seat, seat_at, state_of}
+use Rattle.cluster.specs.declared.carried.Carried.{Carried}
+use Rattle.cluster.specs.declared.plan.Plan.{Plan}
 use Rattle.cluster.specs.declared.starting.Room.{Room}
 use Rattle.cluster.specs.laws.BudgetLaws.{budget_begins}
+use Rattle.cluster.specs.laws.FreshLaws.{fresh_noted, fresh_rests}
 use Rattle.cluster.specs.laws.MeasureLaws.{measured_by}
 use Rattle.cluster.specs.laws.OpenLaws.{open_begun}
 
@@ -73,9 +74,6 @@ first_more lines n heads next first opens = record {
       ];
 }
 
-pub same_more : {A : Type 0} (n : ℕ) (a : A) → replicate (n + 1) a ≡ replicate n a ++ a ∷ []
-same_more n a = sym (replicate-append-replicate n 1 a)
-
 pub few_lines : (lines : List Line) → length lines ≤ most_commands → length lines < 2 ^ 32
 unfolding most_commands
 few_lines lines few = omega (arith, few)
@@ -108,40 +106,38 @@ module _ (device : DiskSeen) (w : Workload) (room : Room) (is : IsWorkload w) (k
     geometry = refl;
     volume = is.geometry;
     long = long_now;
-    seats = ap (λ (ss : List Seat). length ss) ready.seats ∙ length-replicate w.geometry.hosts (resting w.geometry);
+    seats = ready.hosts;
     heads = ready.heads.long;
     head = head_now;
     past = λ p line at earlier. absurd (omega (arith, earlier));
     events = no_events;
   }
 
-  seat_now : (h : ℕ) → seat_at v h ≡ resting w.geometry
-  seat_now h =
-      ap (λ (ss : List Seat). slice_index_or ss h (resting w.geometry)) ready.seats ∙ each_same w.geometry.hosts (resting w.geometry) h
+  seat_now : (h : ℕ) → h < w.geometry.hosts → IsFirstSeat w.geometry (seat_at v h)
+  seat_now h below = let long = ready.hosts in ready.seats h (no_seat w.geometry) (omega (arith, below, long))
 
   host_now : (h : ℕ) → host_at v.world.locks h ≡ dropped
   host_now h = each_same 16 dropped h
 
-  rests_now : (h : ℕ) → IsResting v.world v.cache h (fresh w.geometry)
-  rests_now h = record {
-    watched = nothing_watched v.world h;
-    volume = refl;
-    cached = record {
-      volume = ready.volume;
-      known = λ t p of kept. let both : None ≡ Some p = sym (ready.nothing h t) ∙ kept in absurd cc;
-    };
-  }
+  rests_now : (h : ℕ) (carried : Carried) → IsFresh w.geometry carried → IsResting v.world v.cache h carried
+  rests_now h carried is =
+      fresh_rests w.geometry v.world v.cache h carried is refl
+      (record {
+        volume = ready.volume;
+        known = λ t p of kept. let both : None ≡ Some p = sym (ready.nothing h t) ∙ kept in absurd cc;
+      })
 
-  idle_seat : (h : ℕ) → is_some (seat_at v h).plan ≡ true → ⊥
-  idle_seat h busy =
-      let none = ap (λ (s : Seat). is_some s.plan) (seat_now h) in let both : true ≡ false = sym busy ∙ none in cc
+  idle_seat : (h : ℕ) → h < w.geometry.hosts → is_some (seat_at v h).plan ≡ true → ⊥
+  idle_seat h below busy =
+      let none = ap is_some (seat_now h below).plan in let both : true ≡ false = sym busy ∙ none in cc
 
   first_standing : IsStanding v
   first_standing = record {
     stands = λ h below.
-        subst (λ (s : Seat). PlanStandsOf (at_command v h) v.world v.cache h s.carried s.plan) (sym (seat_now h)) (rests_now h);
-    busy = λ h below busy. absurd (idle_seat h busy);
-    joined = λ h below busy. absurd (idle_seat h busy);
+        subst (λ (plan : Option Plan). PlanStandsOf (at_command v h) v.world v.cache h (seat_at v h).carried plan) (sym (seat_now h below).plan)
+        (rests_now h (seat_at v h).carried (seat_now h below).carried);
+    busy = λ h below busy. absurd (idle_seat h below busy);
+    joined = λ h below busy. absurd (idle_seat h below busy);
   }
 
   no_death : (h : ℕ) → standing_death w.lines room.ledger.answers h ≡ None
@@ -153,17 +149,15 @@ module _ (device : DiskSeen) (w : Workload) (room : Room) (is : IsWorkload w) (k
   pub first_agree : Agree v (λ host. no_notes)
   first_agree = record {
     noted = λ h below.
-        subst (λ (s : Seat). PlanNotedOf (at_command v h) v.world h s.carried s.plan no_notes) (sym (seat_now h))
+        subst (λ (plan : Option Plan). PlanNotedOf (at_command v h) v.world h (seat_at v h).carried plan no_notes) (sym (seat_now h below).plan)
+        (fresh_noted w.geometry v.world h (seat_at v h).carried (seat_now h below).carried no_notes
         (record {
-          rests = record {
-            remembered = remembered_start v.world.locks.geometry (host_at v.world.locks h) (host_now h);
-            rests = inr (host_now h);
-            between = refl;
-          };
-          watch_is = refl;
-          pending_is = refl;
-        });
-    left = λ h below. rw (no_death h) (ap (λ (s : Seat). s.left) (seat_now h));
+          remembered = remembered_start v.world.locks.geometry (host_at v.world.locks h) (host_now h);
+          rests = inr (host_now h);
+          between = refl;
+        })
+        refl refl);
+    left = λ h below. rw (no_death h) (seat_now h below).left;
   }
 
   -- the run without a call
@@ -177,7 +171,7 @@ module _ (device : DiskSeen) (w : Workload) (room : Room) (is : IsWorkload w) (k
   first_measured =
       measured_by (first_cluster device w room) first_standing
       (budget_begins v room.budget.used (ap (λ (b : BudgetView). length b.used) ready.budget ∙ length-replicate w.geometry.hosts 0)
-      (λ h host. ap (λ (s : Seat). s.plan) (seat_now h))
+      (λ h host. (seat_now h host).plan)
       (λ h host. ap (λ (b : BudgetView). used_at b.used h) ready.budget ∙ each_same w.geometry.hosts 0 h))
 
   pub first_inv : OnImage device.state (IsValid w.geometry device.state.counter) → Inv (first_cluster device w room)

@@ -17,12 +17,14 @@ use Rattle.recover_plan.specs.HostStays.{HostStays}
 use Rattle.recover_plan.specs.laws.HostStaysLaws.{host_stays}
 use Rattle.share_plans.specs.laws.GatheringStays.{collect_noted_still, collect_still}
 use Rattle.hint_plans.specs.laws.StillLaws as still
+use Rattle.merge_plan.specs.laws.StillLaws as merges
+use Rattle.serve_plan.specs.laws.StillLaws as serves
 use Rattle.cluster.specs.Carries.{IsCarried, IsWriteNoted}
 use Rattle.cluster.specs.Plans.{IsResting}
 use Rattle.cluster.specs.declared.carried.Carried.{Carried}
 use Rattle.cluster.specs.Seats.{PlanNotedOf, PlanStandsOf}
 use Rattle.cluster.specs.declared.plan.Plan.{Plan}
-use Rattle.cluster.specs.declared.plan.Plan.TheVariants.{Collects, Files, Hints, Slots}
+use Rattle.cluster.specs.declared.plan.Plan.TheVariants.{Collects, Files, Hints, Merges, Serves, Slots}
 
 module _ (v w : WorldView) (c d : Cache) (h x : ℕ) (consistent : Consistent v.locks) (others : Others x v w) (leaves : LeavesOthers x c d)
     (apart : h ≢ x) (below : h < v.locks.geometry.hosts) (carried : Carried) where
@@ -61,6 +63,10 @@ module _ (v w : WorldView) (c d : Cache) (h x : ℕ) (consistent : Consistent v.
   )
   stands_stay command (Some (Hints plan)) (of, at) =
       (of, (still.plan_still v w h x consistent others apart carried.pending plan.doing at.0, rests_stay at.1))
+  stands_stay command (Some (Serves plan)) (of, at) =
+      (of, (serves.plan_still v w h x consistent others apart plan.counts plan.doing at.0, rests_stay at.1))
+  stands_stay command (Some (Merges plan)) (of, at) =
+      (of, (merges.plan_still v w h x consistent others apart carried.room plan.doing at.0, rests_stay at.1))
 
   pub noted_stays : (command : Command) (plan : Option Plan) (n : Notes) → PlanStandsOf command v c h carried plan
       → PlanNotedOf command v h carried plan n → PlanNotedOf command w h carried plan n
@@ -82,3 +88,7 @@ module _ (v w : WorldView) (c d : Cache) (h x : ℕ) (consistent : Consistent v.
   )
   noted_stays command (Some (Hints plan)) n (of, at) (noted, looks) =
       (still.agrees_still v w h x consistent others apart carried.pending.entries plan.doing n noted, looks)
+  noted_stays command (Some (Serves plan)) n (of, at) (noted, looks, pending) =
+      (serves.agrees_still v w h x consistent others apart plan.counts plan.doing n noted, looks, pending)
+  noted_stays command (Some (Merges plan)) n (of, at) (noted, looks) =
+      (merges.agrees_still v w h x consistent others apart carried.pending.entries carried.room plan.doing n noted, looks)

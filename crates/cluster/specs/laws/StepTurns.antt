@@ -27,15 +27,14 @@ use Rattle.host_runs.specs.Rests.{IsNotedAfter, dying_after}
 use Rattle.host_runs.specs.Steps.{IsDeath, notes_now}
 use Rattle.plan_parts.specs.Steps.{OwesStep, ended_of}
 use Rattle.recover_plan.specs.laws.JoinFinds.{dropped_rests}
-use Rattle.recover_plan.specs.laws.RegisterLaws.{nothing_watched}
-use Rattle.cluster.specs.Carries.{fresh}
 use Rattle.cluster.specs.declared.carried.Carried.{Carried}
 use Rattle.cluster.specs.Dropping.{IsDroppedIn}
 use Rattle.cluster.specs.HostTurns.{IsHostTurn}
 use Rattle.file_plans.specs.laws.PlanLaws.{stands_at}
 use Rattle.cluster.specs.Plans.{IsPlanned, NotedBehind, PlanAt, PlanNoted, StandsBehind}
-use Rattle.cluster.specs.declared.plan.Plan.TheVariants.{Collects, Files, Hints, Slots}
+use Rattle.cluster.specs.declared.plan.Plan.TheVariants.{Collects, Files, Hints, Merges, Serves, Slots}
 use Rattle.cluster.specs.Seats.{HasMoved, IsLeft, MakesTurn, PlanNotedOf, PlanStandsOf, death_behind, is_last, joined_of, left_behind, less}
+use Rattle.cluster.specs.laws.FreshLaws.{fresh_noted, fresh_rests}
 use Rattle.cluster.specs.declared.plan.Plan.{Plan}
 use Rattle.cluster.specs.declared.seat.Seat.{Seat}
 use Rattle.cluster.specs.laws.SlotSteps.{nothing_cached}
@@ -149,6 +148,8 @@ pub plan_volume : (v : WorldView) (c : Cache) (h : ℕ) (carried : Carried) (pla
 plan_volume v c h carried (Files plan) at = (stands_at v c plan.core plan.stage at.0).cached.volume
 plan_volume v c h carried (Slots plan) at = at.1.volume
 plan_volume v c h carried (Hints plan) at = at.1.cached.volume
+plan_volume v c h carried (Serves plan) at = at.1.cached.volume
+plan_volume v c h carried (Merges plan) at = at.1.cached.volume
 plan_volume v c h carried (Collects plan) at = at.1.cached.volume
 
 module _ (command : Command) (h : ℕ) (v w : WorldView) (d : Cache) (old mid : Seat) (step : Step) (planned : IsPlanned h command)
@@ -245,15 +246,11 @@ module _ (command : Command) (h : ℕ) (v w : WorldView) (d : Cache) (old mid : 
   dies x e new volume last dropped =
       let now_last : (is_some owed.made && is_last old.left) ≡ true =
       sym (counted old.left) ∙ ap (λ (l : Option ℕ). step.called && is_last l) (sym moved.left) ∙ last in
-      let plan_is : new.plan ≡ None = ap (λ (s : Seat). s.plan) dropped.is in
-      let carried_is : new.carried ≡ fresh w.locks.geometry = ap (λ (s : Seat). s.carried) dropped.is in
+      let plan_is = dropped.first.plan in
       record {
         made = owed.made;
-        stands = rw (plan_is, carried_is) (record {
-          watched = nothing_watched x h;
-          volume = sym dropped.world.notes.geometry;
-          cached = nothing_cached x d e h (volume ∙ sym dropped.world.notes.geometry) dropped.cache;
-        });
+        stands = rw plan_is (fresh_rests w.locks.geometry x e h new.carried dropped.first.carried (sym dropped.world.notes.geometry)
+            (nothing_cached x d e h (volume ∙ sym dropped.world.notes.geometry) dropped.cache));
         plan = ap is_some plan_is;
         goes = λ on. joined;
         turn = λ death n noted left.
@@ -267,10 +264,11 @@ module _ (command : Command) (h : ℕ) (v w : WorldView) (d : Cache) (old mid : 
                   (dying v.locks.geometry h death command v.locks.disk w.locks.disk owed.made step.placed (ended_of step.next) n later owes
                   (owed.quiet n (noted_before n noted)) (planned_calls h command planned)
                   (has_death owed.made v.locks.geometry h command v.locks.disk.state step.placed n death old.left left now_last))),
-              rw (plan_is, carried_is) (
+              rw plan_is (
                   let rests = dropped_rests x h (plan_moment v.locks.geometry h command v.locks.disk w.locks.disk owed.made step.placed n)
-                  dropped.world.notes.mine in record { rests = rests.rests; watch_is = rests.watch_is; pending_is = refl }
+                  dropped.world.notes.mine in fresh_noted w.locks.geometry x h new.carried dropped.first.carried
+                  (dropped_at (plan_moment v.locks.geometry h command v.locks.disk w.locks.disk owed.made step.placed n)) rests.rests rests.watch_is refl
                   ),
-              ap (λ (s : Seat). s.left) dropped.is,
+              dropped.first.left,
             );
       }

@@ -21,7 +21,7 @@ use Rattle.lock_store.specs.Views.{host_at}
 use Rattle.cluster.specs.Agreements.{Agree, IsSound, IsStanding, IsSteady, Supplied}
 use Rattle.cluster.specs.Parts.{HasTaken, IsCommandAt, asked_by}
 use Rattle.cluster.specs.Seats.{IsLeft, PlanNotedOf, PlanStandsOf, joined_of}
-use Rattle.cluster.specs.Views.{PartsView, at_command, resting, seat_at, state_of}
+use Rattle.cluster.specs.Views.{PartsView, at_command, no_seat, seat_at, state_of}
 use Rattle.cluster.specs.declared.plan.Plan.{Plan}
 use Rattle.cluster.specs.declared.seat.Seat.{Seat}
 use Rattle.cluster.specs.laws.ActLaws.{joined_now}
@@ -87,10 +87,10 @@ module _ (v : PartsView) (h position : ℕ) (sound : IsSound v) (standing : IsSt
       after = taken.handed.taken.after
 
       pub taken_here : seat_at started h ≡ seat
-      taken_here = get_or-set_same v.seats h seat (resting v.workload.geometry) (let n = sound.seats in omega (arith, below, n))
+      taken_here = get_or-set_same v.seats h seat (no_seat v.workload.geometry) (let n = sound.seats in omega (arith, below, n))
 
       seat_other : (k : ℕ) → k ≢ h → seat_at started k ≡ seat_at v k
-      seat_other k other = get_or-set_other v.seats h k seat (resting v.workload.geometry) other
+      seat_other k other = get_or-set_other v.seats h k seat (no_seat v.workload.geometry) other
 
       plan_is : seat.plan ≡ Some after
       plan_is = ap (λ (s : Seat). s.plan) taken.handed.taken.is

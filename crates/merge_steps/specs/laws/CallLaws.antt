@@ -15,6 +15,7 @@ use Rattle.vol_layout.specs.Ranges.{HasKind, HasTable}
 use Rattle.vol_layout.specs.laws.PlaceLaws.{kind_at-place}
 use Rattle.shared_disk.specs.Events.{Call, Done, Event, Reads, Reply, Shows, Tests, Writes, event}
 use Rattle.hint_blocks.specs.declared.entry.LogEntry.{LogEntry}
+use Rattle.table_blocks.specs.Tables.{IsPackingOf}
 use Rattle.lock_store.specs.declared.answers.StepNo.{StepNo}
 use Rattle.lock_store.specs.declared.answers.StepNo.TheVariants as steps
 use Rattle.lock_store.specs.Calls.{AnyBlock}
@@ -46,6 +47,7 @@ use Rattle.host_runs.specs.Notes.{NotedCall, Notes}
 use Rattle.host_runs.specs.Tries.{Tries}
 use Rattle.plan_parts.specs.Cuts.{IsCut}
 use Rattle.plan_parts.specs.QuietCalls.{IsFullNoted, Noted, QuietCall}
+use Rattle.plan_parts.specs.declared.outcome.Outcome.{Outcome}
 use Rattle.plan_parts.specs.declared.outcome.Outcome.TheVariants.{Open}
 use Rattle.plan_parts.specs.laws.BlockLaws.{cut_block, quiet_block}
 use Rattle.plan_parts.specs.laws.FetchLaws.{fetch_cut}
@@ -54,7 +56,7 @@ use Rattle.plan_parts.specs.laws.QuietCallLaws.{noting, quiet_call, quiet_read, 
 use Rattle.hint_plans.specs.laws.HintCuts.{read_cut, write_cut}
 use Rattle.hint_plans.specs.laws.HostLaws.{ready_on}
 use Rattle.merge_steps.specs.Logs.{AreLogs, LogsRead, SparesLogs, emptied_more, read_more}
-use Rattle.merge_steps.specs.Steps.{IsIndex, IsMerging, IsSwapReply, MergeNoted, Went}
+use Rattle.merge_steps.specs.Steps.{IsIndex, IsMerging, IsSwapReply, MergeCame, Went}
 use Rattle.merge_steps.specs.laws.LogLaws.{logs_emptied, logs_read, logs_spared}
 
 -- no block of hints but a log is one
@@ -81,10 +83,10 @@ Adds h v e before after =
     (calls : List NotedCall) → AreLogs v.locks.geometry h before calls
     → AreLogs v.locks.geometry h after (calls ++ record { event = e; before = v.locks.disk.state } ∷ [])
 
-with_logs : (h : ℕ) (v w : WorldView) (e : Event) (before after : LogsRead) (pending : List LogEntry)
-    → QuietCall Merge h v w e (Noted Merge h v Open) (Noted Merge h w Open) → Adds h v e before after
-    → QuietCall Merge h v w e (MergeNoted h v pending before) (MergeNoted h w pending after)
-with_logs h v w e before after pending call adds = record {
+with_logs : (h : ℕ) (v w : WorldView) (e : Event) (was now : Outcome) (before after : LogsRead) (pending : List LogEntry)
+    → QuietCall Merge h v w e (Noted Merge h v was) (Noted Merge h w now) → Adds h v e before after
+    → QuietCall Merge h v w e (MergeCame h v was pending before) (MergeCame h w now pending after)
+with_logs h v w e was now before after pending call adds = record {
   acts = call.acts;
   answered = call.answered;
   geometry = call.geometry;
@@ -100,12 +102,12 @@ with_logs h v w e before after pending call adds = record {
   };
 }
 
--- one that spares them
-pub noted_spared : (h : ℕ) (v w : WorldView) (e : Event) (r : LogsRead) (pending : List LogEntry) → SparesLogs v.locks.geometry h e.call
-    → QuietCall Merge h v w e (Noted Merge h v Open) (Noted Merge h w Open)
-    → QuietCall Merge h v w e (MergeNoted h v pending r) (MergeNoted h w pending r)
-noted_spared h v w e r pending spares call =
-    with_logs h v w e r r pending call (λ calls are. logs_spared v.locks.geometry h r calls _ are spares)
+-- one that spares them, whatever the merge comes to by it
+pub noted_spared : (h : ℕ) (v w : WorldView) (e : Event) (was now : Outcome) (r : LogsRead) (pending : List LogEntry)
+    → SparesLogs v.locks.geometry h e.call → QuietCall Merge h v w e (Noted Merge h v was) (Noted Merge h w now)
+    → QuietCall Merge h v w e (MergeCame h v was pending r) (MergeCame h w now pending r)
+noted_spared h v w e was now r pending spares call =
+    with_logs h v w e was now r r pending call (λ calls are. logs_spared v.locks.geometry h r calls _ are spares)
 
 module _ (v w : WorldView) (h : ℕ) (c : Consistent v.locks) (is : IsMerging v h) (others : Others h v w) where
   abbrev g : Geometry
@@ -115,7 +117,7 @@ module _ (v w : WorldView) (h : ℕ) (c : Consistent v.locks) (is : IsMerging v 
       → QuietCall Merge h v w (event (key_at v.locks h) call reply) (Noted Merge h v Open) (Noted Merge h w Open)
       → Adds h v (event (key_at v.locks h) call reply) before after → Went h v w call reply before after
   looked call reply before after looks quiet adds = record {
-    quiet = λ pending. with_logs h v w _ before after pending quiet adds;
+    quiet = λ pending. with_logs h v w _ Open Open before after pending quiet adds;
     geometry = looks.geometry;
     memory = looks.memory;
     facts = looks.facts;
@@ -125,7 +127,7 @@ module _ (v w : WorldView) (h : ℕ) (c : Consistent v.locks) (is : IsMerging v 
       → QuietCall Merge h v w (event (key_at v.locks h) call reply) (Noted Merge h v Open) (Noted Merge h w Open)
       → Adds h v (event (key_at v.locks h) call reply) before after → Went h v w call reply before after
   wrote call reply before after place block left quiet adds = record {
-    quiet = λ pending. with_logs h v w _ before after pending quiet adds;
+    quiet = λ pending. with_logs h v w _ Open Open before after pending quiet adds;
     geometry = left.geometry;
     memory = left.memory;
     facts = left.facts;
@@ -168,6 +170,11 @@ module _ (v w : WorldView) (h : ℕ) (c : Consistent v.locks) (is : IsMerging v 
       (quiet_table Merge v w h t table Open has did others (valid_now v c) (λ f i n q same. absurd cc))
       (λ calls are. logs_spared g h r calls _ are (spares_other (kinds.Table t) has (λ l same. cc)))
   table_went t (Err why) has did looks = tt
+
+  -- its numbers are in range
+  pub table_packed : (t : Table) (result : Result Packing StepNo) → ReadsTable v.locks h t result w.locks → IfOk result (IsPackingOf g t)
+  table_packed t (Ok table) did = did.1
+  table_packed t (Err why) did = tt
 
   pub block_went : (d : ℕ) (result : Result Block StepNo) → HasField g (Count d) → ReadsBlock v.locks h (kinds.Number d) result w.locks
       → OnOk result (Looks h v w)
@@ -276,9 +283,9 @@ merging_still v w h x others apart is = record {
   ready = ready_on v w h others.locks.lasts.geometry (others.locks.memories h apart) (λ a. others.facts h a apart) is.ready;
 }
 
-pub merge_noted_still : (v w : WorldView) (h x : ℕ) (pending : List LogEntry) (r : LogsRead) (n : Notes) → Others x v w → h ≢ x
-    → MergeNoted h v pending r n → MergeNoted h w pending r n
-merge_noted_still v w h x pending r n others apart was =
+pub merge_noted_still : (v w : WorldView) (h x : ℕ) (outcome : Outcome) (pending : List LogEntry) (r : LogsRead) (n : Notes) → Others x v w → h ≢ x
+    → MergeCame h v outcome pending r n → MergeCame h w outcome pending r n
+merge_noted_still v w h x outcome pending r n others apart was =
     let memory = others.locks.memories h apart in
     let geometry = others.locks.lasts.geometry in record {
       noted = record {
@@ -286,7 +293,7 @@ merge_noted_still v w h x pending r n others apart was =
             (subst (λ (g : Geometry). IsRemembered g n.memory (host_at v.locks h)) (sym geometry) was.noted.remembered);
         placed_is = was.noted.placed_is;
         shown_is = was.noted.shown_is;
-        full = subst (λ (g : Geometry). IsFullNoted g Merge Open n.calls) (sym geometry) was.noted.full;
+        full = subst (λ (g : Geometry). IsFullNoted g Merge outcome n.calls) (sym geometry) was.noted.full;
         asks = was.noted.asks;
         wants = ap (λ (g : Geometry). wanted g Merge n.calls n.digests n.asks) geometry ∙ was.noted.wants;
       };

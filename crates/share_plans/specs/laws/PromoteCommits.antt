@@ -275,6 +275,7 @@ module _ (v : WorldView) (core : Promotion) (d t : ℕ) (part group : Kept) (is 
             subst (λ (r : JournalRecord). IsApplying w h r.edits a.left) (sym a_entry)
                 (subst (IsApplying w h entry.edits) (sym a_left) did.stands),
           ),
+          subst (λ (x : Geometry). HasField x (Slot t)) (sym keeps.geometry) at.0.slot.has,
         );
         answers_are = (both_of (told_of v.locks) (told_of w.locks) Done (IsCause g core (answers.Promoted t)) done (λ old new both. both.1), tt);
         less = omega (arith, long, long_too, taken);

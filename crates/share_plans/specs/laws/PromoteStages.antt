@@ -162,6 +162,7 @@ lock_busy v w core stage after key r fresh base less has did so =
       same = same_promotion core after;
       keeps = looked_keeps core.host v w did.looks;
       is_host = host_on core.host v w (still_looks core.host v w did.looks) core.file base.is_host;
+      slot = tt;
       taking = did.taking;
       empty = did.looks.facts (RecordIs []) base.empty;
       cause = looked_sure core.host v w (λ image. Unit {0}) (IsCause v.locks.geometry core (answers.Busy key)) did.looks

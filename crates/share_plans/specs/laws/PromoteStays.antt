@@ -14,7 +14,7 @@ use Rattle.plan_parts.specs.TakenLocks.{IsTaking}
 use Rattle.plan_parts.specs.declared.kept.Kept.{Kept}
 use Rattle.plan_parts.specs.laws.TakenLaws.{taking_still}
 use Rattle.share_plans.specs.Closings.{Closes}
-use Rattle.share_plans.specs.Promotions.{At, IsFilling, Went, closed_by, known_of, outcome_by, own_part}
+use Rattle.share_plans.specs.Promotions.{At, HasSlot, IsFilling, Went, closed_by, known_of, outcome_by, own_part}
 use Rattle.share_plans.specs.Spots.{IsUnread}
 use Rattle.share_plans.specs.Stands.{IsHost}
 use Rattle.share_plans.specs.declared.closing.Closing.{Closing}
@@ -47,6 +47,7 @@ promotion_closes v w core after closing answer None at did = record {
   stands = (
     host_kept v w core.host core.file did.keeps at.0,
     record { joined = did.keeps.joined ∙ at.0.joined; empty = did.stands.1; taking = subst (IsTaking w core.host) did.stands.2 did.stands.0 },
+    subst (λ (g : Geometry). HasSlot g answer) (sym did.keeps.geometry) at.2,
   );
   answers_are = (refl, did.changes);
   less = did.less;
@@ -57,7 +58,11 @@ promotion_closes v w core after closing answer None at did = record {
 promotion_closes v w core after closing answer (Some next) at did = record {
   same = same_promotion core after;
   keeps = did.keeps;
-  stands = (host_kept v w core.host core.file did.keeps at.0, did.stands);
+  stands = (
+    host_kept v w core.host core.file did.keeps at.0,
+    did.stands,
+    subst (λ (g : Geometry). HasSlot g answer) (sym did.keeps.geometry) at.2,
+  );
   answers_are = (refl, did.changes);
   less = did.less;
   event = did.event;
@@ -109,5 +114,6 @@ module _ (v w : WorldView) (core : Promotion) (x : ℕ) (is : Consistent v.locks
   promote_still (doings.Closes closing answer) at = (
     host_on core.host v w (still_of at.0.joined) core.file at.0,
     closing_on v w core.host x core.taken closing is others apart (key_of at.0.joined) at.1,
+    subst (λ (g : Geometry). HasSlot g answer) (sym others.locks.lasts.geometry) at.2,
   )
   promote_still doings.Over at = at

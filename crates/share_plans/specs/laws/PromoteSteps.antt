@@ -1,6 +1,7 @@
 -- What a step of a promotion did, by what its call left.
 use Rattle.std.proofs.Common.{◌≡◌, ◌<◌, ℕ, List, [], ◌∷◌, None, Option, Some, refl, sym, subst, ◌∙◌, arith, length}
 use Rattle.vol_base.specs.declared.command.Command.{Command}
+use Rattle.vol_layout.specs.declared.geometry.Geometry.{Geometry}
 use Rattle.vol_layout.specs.declared.kind.Resource.{Resource}
 use Rattle.image_view.specs.Images.{Image}
 use Rattle.shared_disk.specs.Events.{Event}
@@ -16,7 +17,7 @@ use Rattle.plan_parts.specs.declared.outcome.Outcome.{Outcome}
 use Rattle.plan_parts.specs.declared.outcome.Outcome.TheVariants as outcomes
 use Rattle.share_plans.specs.Closings.{ChangesNothing, KeepsHolds}
 use Rattle.share_plans.specs.HintSpares.{SparesHints}
-use Rattle.share_plans.specs.Promotions.{At, HasAnswered, IsCause, IsOtherKey, IsSame, Went, answer_at, ended_by, left, outcome_by}
+use Rattle.share_plans.specs.Promotions.{At, HasAnswered, HasSlot, IsCause, IsOtherKey, IsSame, Went, answer_at, ended_by, left, outcome_by}
 use Rattle.share_plans.specs.Stands.{IsHost}
 use Rattle.share_plans.specs.Went.{MayShare}
 use Rattle.share_plans.specs.declared.promotion.Doing.{Doing}
@@ -57,6 +58,7 @@ pub record IsEnding (v w : WorldView) (core new : Promotion) (stage : Doing) (an
   pub same : IsSame core new
   pub keeps : KeepsHolds core.host v w
   pub is_host : IsHost w new.host new.file
+  pub slot : HasSlot w.locks.geometry answer
   pub taking : IsTaking w new.host new.taken
   pub empty : Knows w new.host (RecordIs [])
   pub cause : BothTold (told_of v.locks) (told_of w.locks) (IsCause v.locks.geometry core answer)
@@ -83,7 +85,11 @@ module _ (v w : WorldView) (core new : Promotion) (stage : Doing) (answer : Prom
   by_taken [] none = record {
     same = is.same;
     keeps = is.keeps;
-    stands = (is.is_host, record { joined = is.is_host.joined; empty = is.empty; taking = subst (IsTaking w new.host) none is.taking });
+    stands = (
+      is.is_host,
+      record { joined = is.is_host.joined; empty = is.empty; taking = subst (IsTaking w new.host) none is.taking },
+      is.slot,
+    );
     answers_are = came_answers;
     less = let some = is.less in omega (arith, some);
     event = is.event;
@@ -93,7 +99,7 @@ module _ (v w : WorldView) (core new : Promotion) (stage : Doing) (answer : Prom
   by_taken (r ∷ more) some = record {
     same = is.same;
     keeps = is.keeps;
-    stands = (is.is_host, (is.taking, is.empty, λ none. let both : r ∷ more ≡ [] = sym some ∙ none in cc));
+    stands = (is.is_host, (is.taking, is.empty, λ none. let both : r ∷ more ≡ [] = sym some ∙ none in cc), is.slot);
     answers_are = came_answers;
     less = is.less;
     event = is.event;
@@ -104,24 +110,32 @@ module _ (v w : WorldView) (core new : Promotion) (stage : Doing) (answer : Prom
   pub went_ended : Went v w core new stage (ended_by new.taken answer)
   went_ended = by_taken new.taken refl
 
--- an answer that is no key
+-- an answer that is no key and no slot
 abbrev pub IsPlain : Promoted → Type 0
+IsPlain (answers.Promoted t) = ⊥
 IsPlain (answers.Busy key) = ⊥
 IsPlain answer = Unit {0}
 
 plain_open : (answer : Promoted) → IsPlain answer → outcome_by (Some answer) ≡ outcomes.Open
-plain_open (answers.Promoted t) plain = refl
+plain_open (answers.Promoted t) plain = absurd plain
 plain_open answers.Marked plain = refl
 plain_open answers.Hole plain = refl
 plain_open answers.PartFull plain = refl
 plain_open (answers.Busy key) plain = absurd plain
 
 plain_other : (v : WorldView) (h : ℕ) (answer : Promoted) → IsPlain answer → IsOtherKey v h answer
-plain_other v h (answers.Promoted t) plain = tt
+plain_other v h (answers.Promoted t) plain = absurd plain
 plain_other v h answers.Marked plain = tt
 plain_other v h answers.Hole plain = tt
 plain_other v h answers.PartFull plain = tt
 plain_other v h (answers.Busy key) plain = absurd plain
+
+plain_slot : (g : Geometry) (answer : Promoted) → IsPlain answer → HasSlot g answer
+plain_slot g (answers.Promoted t) plain = absurd plain
+plain_slot g answers.Marked plain = tt
+plain_slot g answers.Hole plain = tt
+plain_slot g answers.PartFull plain = tt
+plain_slot g (answers.Busy key) plain = absurd plain
 
 -- a call that wrote nothing came to such an answer
 pub looked_ended : (v w : WorldView) (core new : Promotion) (stage : Doing) (answer : Promoted) → IsPlain answer → answer_at stage ≡ None
@@ -138,6 +152,7 @@ looked_ended v w core new stage answer plain fresh same looks is_host taking emp
       same = same;
       keeps = looked_keeps core.host v w looks;
       is_host = is_host;
+      slot = plain_slot w.locks.geometry answer plain;
       taking = taking;
       empty = empty;
       cause = looked_sure core.host v w P (IsCause v.locks.geometry core answer) looks sure cause;

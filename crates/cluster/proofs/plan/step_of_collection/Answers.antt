@@ -43,5 +43,6 @@ returns-in-Ok-clause-leaves g c =
 
 pub returns-in-Ok-clause-sooner : goal.returns-in-Ok-clause-sooner
 returns-in-Ok-clause-sooner g c =
-    collect_sooner c.args.world.now c.next.new.world c.args.cache.now c.forget_behind.new.cache c.args.plan.now c.next.new.self c.in-Ok.step
+    collect_sooner c.args.world.now c.next.new.world c.args.cache.now c.forget_behind.new.cache c.args.carried.now c.forget_slots.new.self
+    c.args.plan.now c.next.new.self c.in-Ok.step
     c.in-Ok.ensures.step

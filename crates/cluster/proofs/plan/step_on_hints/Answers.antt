@@ -34,4 +34,4 @@ returns-in-Ok-clause-sooner g c =
     (Hints c.args.plan.now) n) (sym c.requires.of) c.requires.noted in
     hint_sooner c.args.world.now c.next.new.world c.args.cache.now c.forget_behind.new.cache c.args.plan.now.host c.args.carried.now
     c.next.new.pending c.args.plan.now c.next.new.self c.next.ensures.host c.next.ensures.others c.requires.at noted c.in-Ok.step
-    c.in-Ok.ensures.step
+    c.forget_slots.new.self c.in-Ok.ensures.step

@@ -40,5 +40,6 @@ returns-in-Ok-clause-leaves g c =
 
 pub returns-in-Ok-clause-sooner : goal.returns-in-Ok-clause-sooner
 returns-in-Ok-clause-sooner g c =
-    slots_sooner c.args.world.now c.next.new.world c.args.cache.now c.forget_behind.new.cache c.args.plan.now c.next.new.self c.in-Ok.step.next
+    slots_sooner c.args.world.now c.next.new.world c.args.cache.now c.forget_behind.new.cache c.args.carried.now c.note.new.self
+    c.args.plan.now c.next.new.self c.in-Ok.step.next
     c.next.ensures.host c.in-Ok.ensures.step.fewer

@@ -73,9 +73,8 @@ returns-in-None-clause-sooner g c =
     let rests = subst (λ p. PlanNotedOf c.args.command.now c.args.world.now c.args.host c.args.self.now.carried p c.requires.noted.0) c.requires.none
     c.requires.noted.1 in
     let consistent = subst Consistent c.locks.ensures c.geometry-geometry.ensures.consistent in
-    begun_sooner c.args.world.now c.go_on.new.world c.args.cache.now c.go_on.new.cache c.args.self.now.plan c.of.result c.go_on.new.self.plan
-    c.requires.none
-    (begun_few c.args.world.now c.args.cache.now c.args.host c.args.self.now.carried c.args.command.now c.of.result consistent.geometry c.of.ensures
+    begun_sooner c.args.world.now c.go_on.new.world c.args.cache.now c.go_on.new.cache c.args.self.now c.of.result c.go_on.new.self c.requires.none
+    (begun_few c.args.world.now c.args.cache.now c.args.host c.args.self.now.carried c.args.command.now c.of.result consistent c.of.ensures
     (begun_at c.args.world.now c.args.cache.now c.args.host c.args.self.now.carried consistent c.requires.host c.args.command.now c.requires.range
     rests.rests.rests none c.requires.stands c.of.result c.of.ensures))
     c.go_on.result c.go_on.ensures.sooner

@@ -1,0 +1,4 @@
+pub mod Acts
+pub mod Behind
+pub mod Steps
+pub mod laws

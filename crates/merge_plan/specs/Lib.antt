@@ -1,0 +1,5 @@
+pub mod Rooms
+pub mod Followings
+pub mod Plans
+pub mod Steps
+pub mod laws

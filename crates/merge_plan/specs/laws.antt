@@ -1,0 +1,12 @@
+pub mod OrderLaws
+pub mod FollowLaws
+pub mod OnLaws
+pub mod StepLaws
+pub mod StillLaws
+pub mod CutLaws
+pub mod DecideLaws
+pub mod LogSteps
+pub mod ShardSteps
+pub mod BeginSteps
+pub mod RangeLaws
+pub mod EntrySteps
