@@ -29,7 +29,7 @@ PARTS = [
      ["jobs.Runs.IsOwed"]),
     ("The text that is read, and the report",
      "which workload and schedule are meant, and which bytes tell a run",
-     ["jobs.Words.job_of", "jobs.Words.hosts_of", "workload.Grammar.workload_of", "report.Reports.report", "image_view.Usages.usage_of"]),
+     ["words.Words.job_of", "words.Words.hosts_of", "workload.Grammar.workload_of", "report.Reports.report", "image_view.Usages.usage_of"]),
     ("What is told of a device and a text",
      "what is written at each status, why a text or a device is refused, and the other two ends, `CheckEnds` and `UsageEnds`",
      ["jobs.Checks.CheckDecides", "jobs.Outcomes.outcome_text", "jobs.Simulations.RefusesDevice", "jobs.Simulations.RefusesText",

@@ -54,6 +54,12 @@ abbrev pub IsBefore : ℕ → Command → Option Plan → Plan → Type 0
 IsBefore h command None before = IsBegun h command before × IsAsking before × AsksFirst command
 IsBefore h command (Some plan) before = before ≡ plan
 
+-- a plan of the command stands at its beginning
+pub record HasStartedPlan (h : ℕ) (command : Command) (old new : Seat) : Type 0 where
+  pub plan : Plan
+  pub begun : IsBegun h command plan
+  pub is : new ≡ record old { plan = Some plan }
+
 -- the seat with the plan that took the digest
 pub record IsTaken (digest : Digest) (before : Plan) (old new : Seat) : Type 0 where
   pub after : Plan

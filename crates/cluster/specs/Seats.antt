@@ -1,8 +1,9 @@
 -- A host as the cluster keeps it: what stands between two of its turns, and what one turn does.
-use Rattle.std.specs.Prelude.{◌≡◌, ◌⊎◌, ◌+◌, ◌-◌, ◌<◌, ◌==◌, ℕ, Bool, true, false, None, Option, Some, is_none, is_some, if◌then◌else◌}
+use Rattle.std.specs.Prelude.{◌≡◌, ◌⊎◌, ◌+◌, ◌-◌, ◌<◌, ◌==◌, ℕ, Bool, true, false, Err, None, Ok, Option, Result, Some, is_none, is_some, if◌then◌else◌}
 use Rattle.vol_base.specs.declared.answer.Answer.{Answer}
 use Rattle.vol_base.specs.declared.answer.Answer.TheVariants.{Cut, Down, Fine, Up}
 use Rattle.vol_base.specs.declared.answer.Step.{Step}
+use Rattle.vol_base.specs.declared.plain.NoMemory.{NoMemory}
 use Rattle.vol_base.specs.declared.command.Command.{Command}
 use Rattle.vol_base.specs.declared.command.Command.TheVariants as commands
 use Rattle.shared_disk.specs.Events.{Event}
@@ -81,6 +82,11 @@ pub record HasMoved (command : Command) (h : ℕ) (v w : WorldView) (d : Cache) 
   pub stepped : HasStepped command h v w d old.carried new.carried before after step
   pub is : new.plan ≡ (if is_none (ended_of step.next) then Some after else None)
   pub left : new.left ≡ old.left
+
+-- a step ended its command
+abbrev pub is_answered : Result Step NoMemory → Bool
+is_answered (Ok step) = is_some (ended_of step.next)
+is_answered (Err no') = false
 
 -- one turn: whatever the notes were that agreed with the seat, it is a turn of the host, and the notes behind it agree again
 pub record MakesTurn (command : Command) (h : ℕ) (v w : WorldView) (d : Cache) (old new : Seat) (done : Done) : Type 0 where

@@ -4,6 +4,7 @@ ghost use Rattle.cluster.specs.PlanTurns.{IsSooner};
 ghost use Rattle.cluster.specs.Asking.{plan_asks};
 ghost use Rattle.cluster.specs.Hands.{IsAsking, IsSuppliedIn, MayTake};
 ghost use Rattle.cluster.specs.Plans.{ForgetsBehind, ForgetsFor, HasStepped, IsBegun, IsOf, IsPlanned, PlanAt, PlanNoted};
+ghost use Rattle.hint_plans.specs.Nexts.{IsOfPlan};
 ghost use Rattle.hint_plans.specs.Plans as hints;
 ghost use Rattle.host_runs.specs.Notes.{Notes};
 ghost use Rattle.file_plans.specs.Calls.{Runs};
@@ -49,12 +50,10 @@ impl Plan {
     {
         match command {
             Command::Close(file) => Plan::Files(FilePlan::close_file(host, *file)),
-            Command::Collect(part) => Plan::Collects(CollectPlan::new(host, *part)),
-            Command::Log | Command::Scan(_, _) | Command::Scribble(_, _, _) => {
-                Plan::Hints(HintPlan::new(host, command))
-            }
-            Command::Serve => Plan::Serves(ServePlan::new(host)),
-            Command::Merge => Plan::Merges(MergePlan::new(host)),
+            Command::Collect(part) => collects(host, *part),
+            Command::Log | Command::Scan(_, _) | Command::Scribble(_, _, _) => hints(host, command),
+            Command::Serve => serves(host),
+            Command::Merge => merges(host),
             _ => match plain_call(command) {
                 Some(call) => Plan::Files(FilePlan::new(host, &call)),
                 None => Plan::Slots(RecoverPlan::new(host, *command)),
@@ -108,6 +107,32 @@ impl Plan {
             Plan::Merges(plan) => step_of_merge(plan, command, world, cache, carried),
         }
     }
+}
+
+// The beginning of each larger plan stands in a function of its own: a function pays at its entry for all plans that it has room for.
+fn collects(host: HostNo, part: u8) -> Plan
+    ensures { IsBegun host (Command.Collect part) result }
+{
+    Plan::Collects(CollectPlan::new(host, part))
+}
+
+fn hints(host: HostNo, command: &Command) -> Plan
+    requires { IsOfPlan command.now }
+    ensures { IsBegun host command.now result }
+{
+    Plan::Hints(HintPlan::new(host, command))
+}
+
+fn serves(host: HostNo) -> Plan
+    ensures { IsBegun host Command.Serve result }
+{
+    Plan::Serves(ServePlan::new(host))
+}
+
+fn merges(host: HostNo) -> Plan
+    ensures { IsBegun host Command.Merge result }
+{
+    Plan::Merges(MergePlan::new(host))
 }
 
 // A step on a file. A host that is cut remembers no slot.

@@ -2,10 +2,10 @@
 ghost use Rattle.std.specs.Prelude.{◌≡◌, ◌<◌, ◌&&◌, IfErr, IfOk, IfSome, IsSome, IsTrue, None, Some, if◌then◌else◌, is_some, true};
 ghost use Rattle.cluster.specs.Dropping.{IsAnsweredAtOnce, IsDroppedIn};
 ghost use Rattle.cluster.specs.Asking.{asked_with, plan_asks};
-ghost use Rattle.cluster.specs.Hands.{IsHandedIn, MayHandIn};
+ghost use Rattle.cluster.specs.Hands.{HasStartedPlan, IsAsking, IsHandedIn, IsTaken, MayHandIn, MayTake};
 ghost use Rattle.cluster.specs.PlanTurns.{GoesSooner};
 ghost use Rattle.cluster.specs.Plans.{IsOf, IsPlanned, IsResting, PlanAt};
-ghost use Rattle.cluster.specs.Seats.{HasMoved, IsKnown, MakesTurn, PlanNotedOf, PlanStandsOf, at_once, is_last, left_behind, less};
+ghost use Rattle.cluster.specs.Seats.{HasMoved, IsKnown, MakesTurn, PlanNotedOf, PlanStandsOf, at_once, is_answered, is_last, left_behind, less};
 ghost use Rattle.host_runs.specs.Notes.{Notes};
 ghost use Rattle.cluster.specs.Views.{IsFirstSeat};
 ghost use Rattle.vol_layout.specs.Ranges.{IsGeometry};
@@ -87,12 +87,30 @@ impl Seat {
         requires { MayHandIn command.now self.old }
         ensures { IsHandedIn host command.now digest self.old self.new }
     {
-        let mut plan = match self.plan.take() {
-            Some(plan) => plan,
-            None => Plan::of(host, command),
+        if self.plan.is_none() {
+            self.start(host, command);
+        }
+        self.take(digest);
+    }
+
+    // The plan of a command stands at its beginning. Plans are large: one is moved where it has to be alone.
+    fn start(&mut self, host: HostNo, command: &Command)
+        requires { IsPlanned host command.now }
+        ensures { HasStartedPlan host command.now self.old self.new }
+    {
+        self.plan = Some(Plan::of(host, command));
+    }
+
+    // The plan under way takes the digest that it waits for.
+    fn take(&mut self, digest: Digest)
+        requires asks { IfSome self.old.plan (λ plan. IsAsking plan × MayTake self.old.carried.pending.geometry plan) }
+        requires some { IsSome self.old.plan }
+        ensures { IfSome self.old.plan (λ before. IsTaken digest before self.old self.new) }
+    {
+        let Some(plan) = &mut self.plan else {
+            unreachable!()
         };
         plan.hand_in(digest, &mut self.carried);
-        self.plan = Some(plan);
     }
 
     // The first turn of a command that asks for no digest.
@@ -121,7 +139,7 @@ impl Seat {
         match at_once(command, joined) {
             Some(answer) => Ok(self.answer(host, command, answer, world, cache)),
             None => {
-                self.plan = Some(Plan::of(host, command));
+                self.start(host, command);
                 self.go_on(host, command, world, cache)
             }
         }
@@ -148,16 +166,22 @@ impl Seat {
         ensures leaves { LeavesOthers host cache.old cache.new }
     {
         let _geometry = world.locks().geometry();
-        let step = self.step(host, command, world, cache)?;
+        // A step has room for two blocks: it is looked at where it stands.
+        let went = self.step(host, command, world, cache);
         let _later = world.locks().geometry();
-        if self.counts_last(step.called) {
-            self.drop_host(host, world, cache);
-            return Ok(Done {
-                placed: step.placed,
-                ended: Some(Answer::Cut(CutBy::Died)),
-            });
+        match &went {
+            Ok(step) => {
+                if self.counts_last(step.called) {
+                    self.drop_host(host, world, cache);
+                    return Ok(Done {
+                        placed: step.placed,
+                        ended: Some(Answer::Cut(CutBy::Died)),
+                    });
+                }
+                Ok(self.end(step))
+            }
+            Err(no) => Err(*no),
         }
-        Ok(self.end(&step))
     }
 
     // What a step did that was no death. A cut ends a standing death.
@@ -195,11 +219,18 @@ impl Seat {
         let Some(plan) = &mut self.plan else {
             unreachable!()
         };
-        let step = plan.next(host, command, world, cache, &mut self.carried)?;
-        if answer_in(&step.next).is_some() {
-            self.plan = None;
+        let went = plan.next(host, command, world, cache, &mut self.carried);
+        if is_answered(&went) {
+            self.rest();
         }
-        Ok(step)
+        went
+    }
+
+    // No command is under way.
+    fn rest(&mut self)
+        ensures { self.new ≡ record self.old { plan = None } }
+    {
+        self.plan = None;
     }
 
     // Counts a device call, if there was one, and tells whether it was the one at which the host dies.
@@ -280,6 +311,19 @@ fn at_once(command: &Command, joined: bool) -> Option<Answer>
         _ if !joined => Some(Answer::Down),
         Command::Die(_) => Some(Answer::Fine),
         _ => None,
+    }
+}
+
+// Whether a step ended its command.
+fn is_answered(went: &Result<Step, NoMemory>) -> bool
+    ensures { result ≡ is_answered went.now }
+{
+    match went {
+        Ok(step) => match step.next {
+            Next::Answered(_) => true,
+            Next::More | Next::Work(_) => false,
+        },
+        Err(_) => false,
     }
 }
 

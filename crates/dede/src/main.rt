@@ -2,7 +2,7 @@
 #![tactic(auto)]
 
 use file_disk::FileDisk;
-use jobs::{Job, Status, job_of, top};
+use jobs::{Job, LineNo, Status, asked, top};
 use std::alloc::Global;
 use std::env;
 use std::io::ErrorKind;
@@ -11,7 +11,10 @@ use vol_base::{FreeGate, NoMemory};
 use vol_io::{StdSink, StdSource};
 
 fn main(rt: HostRuntime) -> ExitCode {
-    let Ok((words, disk)) = command_line(&rt) else {
+    let Ok(words) = words(&rt) else {
+        return ExitCode::from(Status::Memory.code());
+    };
+    let Ok((path, disk)) = volume(&rt, &words) else {
         return ExitCode::from(Status::Memory.code());
     };
     let mut source = StdSource::new(rt.stdin());
@@ -26,7 +29,7 @@ fn main(rt: HostRuntime) -> ExitCode {
         &FreeGate,
     );
     if status == Status::DiskFault {
-        tell_reason(&rt, volume(&words), &disk);
+        tell_reason(&rt, path, &disk);
     }
     ExitCode::from(status.code())
 }
@@ -36,13 +39,6 @@ fn tell_reason(rt: &HostRuntime, path: &str, disk: &FileDisk) {
     if let Some(reason) = disk.reason() {
         let _written = eprintln!(rt; "dede: {path}: {reason}");
     }
-}
-
-// The words of the command line, and the device over the file that they name.
-fn command_line(rt: &HostRuntime) -> Result<(Vec<String>, FileDisk), NoMemory> {
-    let words = words(rt)?;
-    let disk = FileDisk::new(rt, rt.alloc(), volume(&words))?;
-    Ok((words, disk))
 }
 
 // The words behind the program's name. Where one is no text there are none, so that they are of no form.
@@ -58,12 +54,21 @@ fn words(rt: &HostRuntime) -> Result<Vec<String>, NoMemory> {
     }
 }
 
-// The path of the volume's file. It is empty for words that are of no form, and for those of a job without a volume, so that
-// they make no file.
-fn volume(words: &[String]) -> &str {
-    match (job_of(words), words.first()) {
-        (Some(Job::Gen(_)) | None, _) => "",
-        (Some(_), Some(path)) => path.as_str(),
-        (Some(_), None) => "",
+// The path of the volume's file, and the device over it.
+fn volume<'a>(rt: &HostRuntime, words: &'a [String]) -> Result<(&'a str, FileDisk), NoMemory> {
+    let path = path_of(rt.alloc(), words)?;
+    let disk = FileDisk::new(rt, rt.alloc(), path)?;
+    Ok((path, disk))
+}
+
+// The path is empty for words that are of no form, and for those of a job without a volume, so that they make no file.
+fn path_of(alloc: Global, words: &[String]) -> Result<&str, NoMemory> {
+    match asked(alloc, words) {
+        Ok(line) => match line.job {
+            Job::Gen(_) => Ok(""),
+            _ => Ok(line.volume),
+        },
+        Err(LineNo::Usage) => Ok(""),
+        Err(LineNo::NoMemory) => Err(NoMemory),
     }
 }

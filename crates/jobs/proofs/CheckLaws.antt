@@ -28,16 +28,16 @@ pub contradicted : (o : Option Told) (P Q : Told → Type 0) → ((t : Told) →
 contradicted (Some t) P Q clash is other = clash t is other
 contradicted None P Q clash is other = absurd is
 
-untold : (o : Option Told) (P : Told → Type 0) → IsSomeAnd o P → IsNone o → ⊥
+pub untold : (o : Option Told) (P : Told → Type 0) → IsSomeAnd o P → IsNone o → ⊥
 untold (Some t) P is none = false≢true (sym none)
 untold None P is none = absurd is
 
 -- a valid volume is valid under the next counter
-valid_next : (counter : ℕ) (image : Image) → IsVolume counter image → IsVolume (counter + 1) image
+pub valid_next : (counter : ℕ) (image : Image) → IsVolume counter image → IsVolume (counter + 1) image
 valid_next counter image valid = IsValid-later (geometry_of image) counter (counter + 1) image (omega arith) valid
 
 -- a valid volume is not blank
-valid_is_not_blank : (counter : ℕ) (image : Image) → IsVolume counter image → IsBlank image → ⊥
+pub valid_is_not_blank : (counter : ℕ) (image : Image) → IsVolume counter image → IsBlank image → ⊥
 valid_is_not_blank counter image valid blank =
     false≢true (sym (not_blank (geometry_of image) image valid.geometry) ∙ (bytes_eq-Decides (first_block image) (zeros 4096)).1 blank)
 

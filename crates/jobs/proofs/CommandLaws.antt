@@ -2,7 +2,7 @@
 use Rattle.std.proofs.Common.{◌≡◌, ℕ, List, Option, inl, inr, sym, subst}
 use Rattle.jobs.specs.declared.outcome.Outcome.TheVariants as outcomes
 use Rattle.jobs.specs.declared.status.Status.{Status}
-use Rattle.jobs.specs.declared.words.Job.{Job}
+use Rattle.words.specs.declared.forms.Job.{Job}
 use Rattle.jobs.specs.Commands.{IsUsageStatus, JobEnds, ProgramEnds, UsageEnds}
 use Rattle.jobs.specs.Endings.{SinkSeen, IsTold}
 use Rattle.jobs.specs.Seen.{Seen}

@@ -5,6 +5,7 @@ mod CommandLaws
 mod Conclusions
 mod FilesSince
 mod GenLaws
+mod MemoryLaws
 mod ReadingLaws
 mod RunEnds
 mod RunLaws
@@ -12,4 +13,3 @@ mod SettleLaws
 mod SimLaws
 mod TellingLaws
 mod ThreadLaws
-mod WordLaws

@@ -99,7 +99,7 @@ cause_of schedule before after outcome (inl stopped) text = absurd stopped.stops
 cause_of schedule before after outcome (inr run) text = absurd (unopened_is outcome run.workload before.disk after.disk run.decides)
 
 -- a sink that is as before took nothing
-takes_nothing : (taken : Option (List ℕ)) → Appends taken taken []
+pub takes_nothing : (taken : Option (List ℕ)) → Appends taken taken []
 takes_nothing None = tt
 takes_nothing (Some bytes) = sym (append-nil bytes)
 

@@ -6,17 +6,19 @@ use Rattle.vol_base.specs.Faults.{Rose}
 use Rattle.jobs.specs.declared.outcome.Outcome.TheVariants as outcomes
 use Rattle.jobs.specs.declared.status.Status.{Status}
 use Rattle.jobs.specs.declared.status.Status.TheVariants as statuses
-use Rattle.jobs.specs.declared.words.Job.{Job}
-use Rattle.jobs.specs.declared.words.Job.TheVariants.{Sim, Run, Check, Settle, Gen}
+use Rattle.words.specs.Words.{hosts_of, job_of}
+use Rattle.words.specs.declared.forms.Job.{Job}
+use Rattle.words.specs.declared.forms.Job.TheVariants.{Sim, Run, Check, Settle, Gen}
+use Rattle.words.specs.declared.line.LineNo.{LineNo}
+use Rattle.words.specs.declared.line.LineNo.TheVariants as refusals
 use Rattle.jobs.specs.Checks.{AreVisits, CheckDecides, IsCheckStatus, IsReady, PrintsRefusal, PrintsValid}
-use Rattle.jobs.specs.Endings.{Ends, HasFailed, IsSmooth, IsTold, SinkSeen}
+use Rattle.jobs.specs.Endings.{Ends, HasFailed, IsSmooth, IsTold, IsUnwritten, SinkSeen}
 use Rattle.jobs.specs.Generations.{GenEnds}
 use Rattle.jobs.specs.Outcomes.{outcome_text}
 use Rattle.jobs.specs.Runs.{ByThreads, ByWords}
 use Rattle.jobs.specs.Seen.{Seen}
 use Rattle.jobs.specs.Settlings.{SettleEnds}
 use Rattle.jobs.specs.Simulations.{SimEnds}
-use Rattle.jobs.specs.Words.{hosts_of, job_of}
 
 -- the job that checks a volume ends with this status
 pub record CheckEnds (old new : DiskSeen) (before after : SinkSeen) (status : Status) : Type 0 where
@@ -72,6 +74,11 @@ pub record UsageEnds (before after : Seen) (status : Status) : Type 0 where
   pub write_fault : status ≡ statuses.WriteFault → HasFailed before.sink after.sink
   pub source : after.source ≡ before.source
   pub disk : after.disk ≡ before.disk
+
+-- words that give no line are refused: the usage is told for those of no form, and without memory nothing is written
+abbrev pub IsRefused : LineNo → SinkSeen → SinkSeen → Status → Type 0
+IsRefused refusals.Usage before after status = IsTold before after outcomes.Usage status
+IsRefused refusals.NoMemory before after status = IsUnwritten before after status
 
 -- a call without threads ends with this status, by the job that its words ask for; `run` is to it as words of no form
 abbrev pub JobEnds : Option Job → List ℕ → Seen → Seen → Status → Type 0

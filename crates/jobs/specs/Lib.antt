@@ -11,4 +11,3 @@ pub mod Settlings
 pub mod Simulations
 pub mod Sources
 pub mod Statuses
-pub mod Words

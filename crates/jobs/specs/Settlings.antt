@@ -1,11 +1,13 @@
 -- How the job that settles a volume ends.
-use Rattle.std.specs.Prelude.{◌≡◌, ◌≤◌, ◌++◌, ◌∷◌, [], ℕ, List, IfSome, IsNone, Option, codes, decimal}
+use Rattle.std.specs.Prelude.{◌≡◌, ◌⊎◌, ◌≤◌, ◌+◌, ◌++◌, ◌∷◌, [], ℕ, List, IfSome, IsNone, IsSomeAnd, Option, codes, decimal}
 use Rattle.std.specs.Io.KnownBytes.{Appends}
 use Rattle.call_effects.specs.Places.{KeepsFiles}
 use Rattle.disk_locks.specs.Sure.{BothTold}
 use Rattle.image_view.specs.declared.usage.Usage.{Usage}
 use Rattle.image_view.specs.Usages.{usage_of}
+use Rattle.image_view.specs.Valid.{IsVolume}
 use Rattle.report.specs.Reports.{usage_line}
+use Rattle.settle.specs.Passes.{Passes}
 use Rattle.settle.specs.declared.lone.LoneNo.{LoneNo}
 use Rattle.settle.specs.declared.lone.LoneNo.TheVariants as stops
 use Rattle.settle.specs.declared.settling.Settled.{Settled}
@@ -21,7 +23,7 @@ use Rattle.jobs.specs.declared.outcome.VolumeNo.TheVariants as refusals
 use Rattle.jobs.specs.declared.status.Status.{Status}
 use Rattle.jobs.specs.declared.status.Status.TheVariants as statuses
 use Rattle.jobs.specs.Checks.{FindsBlank, FindsFaults, IsCheckStatus, TellsVolume}
-use Rattle.jobs.specs.Endings.{Ends, HasFailed, SinkSeen}
+use Rattle.jobs.specs.Endings.{Ends, HasFailed, IsSmooth, SinkSeen}
 use Rattle.jobs.specs.Outcomes.{refusal_text}
 
 -- the two lines of a settled volume
@@ -38,13 +40,13 @@ pub record ReportsSettled (old new : State) (report : List ℕ) : Type 0 where
   pub settled : IfSome new.told (λ told. HasSettled counts told.image)
   pub counted : IfSome new.told (λ told. usage ≡ usage_of told.image)
 
--- why a volume is refused: the check does not find it valid; no key is left; or, over a device that tells nothing, a block was not of its kind.
--- Of the key of another host nothing is said
+-- why a volume is refused: the check does not find it valid; no key is left, of which three come before the last; or, over a device that tells nothing alone, a block was not of its
+-- kind, or a key of another host was met
 abbrev pub SettleRefuses : State → State → VolumeNo → Type 0
 SettleRefuses old new (refusals.Faults faults) = FindsFaults old new faults.items
 SettleRefuses old new refusals.Blank = FindsBlank old new
-SettleRefuses old new (refusals.NoKeys counter) = (counter ≡ last_counter) × (last_counter ≤ new.counter)
-SettleRefuses old new (refusals.Busy key) = TellsVolume old
+SettleRefuses old new (refusals.NoKeys counter) = (counter ≡ last_counter) × (last_counter ≤ new.counter) × (last_counter ≤ old.counter + 3)
+SettleRefuses old new (refusals.Busy key) = IsNone old.told
 SettleRefuses old new (refusals.Misread place) = IsNone old.told
 
 -- what the job decides; of a want of memory nothing is said
@@ -67,6 +69,11 @@ pub record PrintsUnsettled (old new : State) (before after : Option (List ℕ)) 
   pub refused : SettleRefuses old new refusal
   pub text : Appends before after (refusal_text refusal)
 
+-- the device tells a valid volume, and its counter is not near its end: a key is given for the check, two for the host, and one for the survey
+pub record IsToSettle (s : State) : Type 0 where
+  pub valid : IsSomeAnd s.told (λ told. IsVolume s.counter told.image)
+  pub keys : s.counter + 4 ≤ last_counter
+
 -- it ends with this status
 pub record SettleEnds (old new : DiskSeen) (before after : SinkSeen) (status : Status) : Type 0 where
   -- an outcome is decided, and then told
@@ -77,8 +84,11 @@ pub record SettleEnds (old new : DiskSeen) (before after : SinkSeen) (status : S
   pub volume : status ≡ statuses.Volume → PrintsUnsettled old.state new.state before.taken after.taken
   pub disk_fault : status ≡ statuses.DiskFault → Rose old.faults new.faults
   pub write_fault : status ≡ statuses.WriteFault → HasFailed before after
-  -- whatever the status, no file changed
+  -- whatever the status, no file changed; and from a valid volume on each image on the way is one, with the files of the first
   pub files : BothTold old.state.told new.state.told KeepsFiles
+  pub images : Passes old.state new.state
+  -- without a fault a valid volume is settled, where memory serves
+  pub complete : IsToSettle old.state → IsSmooth old new before after → (status ≡ statuses.Ok) ⊎ (status ≡ statuses.Memory)
 
 -- what the refusal of a host that is alone comes to
 abbrev pub refused_as : LoneNo → Outcome

@@ -4,7 +4,7 @@
 //! # What is proved
 //!
 //! - `command` and `top` do the job that the words behind the program's name ask for. Each has one clause, by the words (`job_of` and
-//!   `hosts_of`, exact): `SimEnds`, `ChecksAlone`, `SettlesAlone`, `Generates` or `UsageEnds`. `CommandEnds`, of `command`, has `UsageEnds` for `run`, since that job needs
+//!   `hosts_of`, exact functions of them; the hosts are those of the line that `words` gives): `SimEnds`, `ChecksAlone`, `SettlesAlone`, `Generates` or `UsageEnds`. `CommandEnds`, of `command`, has `UsageEnds` for `run`, since that job needs
 //!   threads; `TopEnds`, of `top`, has `SimEnds` of threads there, and else the same.
 //! - `SimEnds` of a schedule, of `sim` and of `run`: each status has its cause (`CauseOf`, one line a status):
 //!   - Ok: the source was read to its end, and its text is that of a workload; the sink took exactly the report
@@ -47,13 +47,16 @@
 //!   - A valid volume, a counter that two registrations do not bring to its end, no fault of the device and the sink, and a sink that
 //!     takes something of each piece that is not empty: Ok or Memory.
 //! - `SettleEnds`, of `settle`: no status comes but Ok, Volume, DiskFault, WriteFault and Memory (`among`). Whatever the status, no file changed
-//!   (`files`).
+//!   (`files`), and from a valid volume on each image on the way, behind whatever device call the job is stopped, is a valid volume with the
+//!   files of the first (`images`).
 //!   - Ok: the sink took exactly `settled`, the two numbers, and the usage line. Where the device tells its image, the volume was valid, and is settled
 //!     now (`HasSettled`): any two live places with equal bytes show one data block, and the numbers are exactly those of the live places and of
 //!     the different blocks that they hold. The usage is that of the image.
-//!   - Volume: the faults of the check, or that block 0 is blank, as of `check`; or the counter, and the device's is at its end; or, over a device that
-//!     tells nothing alone, a block that was not of its kind. Of the key of another host nothing is said. DiskFault and WriteFault only with their causes.
-//!   - Not proved of it: that a valid volume, keys enough and no fault give Ok or Memory.
+//!   - Volume: the faults of the check, or that block 0 is blank, as of `check`; or the counter, and the device's is at its end, to which at most three
+//!     registrations brought it; or, over a device that tells nothing alone, a block that was not of its kind, or the key of another host. DiskFault and
+//!     WriteFault only with their causes.
+//!   - A valid volume, a counter that three registrations do not bring to its end, no fault of the device and the sink, and a sink that takes
+//!     something of each piece that is not empty: Ok or Memory (`complete`).
 //! - `GenEnds`, of `generate`: at Ok the sink took exactly the generated workload of so many rounds (`gen_load`); WriteFault comes only where the
 //!   sink failed or took nothing; no other status comes but Memory, and none but Ok and Memory where the sink serves. Source and device are
 //!   untouched (`Generates`).
@@ -82,7 +85,6 @@ mod status;
 mod telling;
 mod texts;
 mod threading;
-mod words;
 
 pub use checking::check;
 pub use commands::command;
@@ -94,4 +96,4 @@ pub use simulating::sim;
 pub use status::Status;
 pub use telling::tell;
 pub use threading::run;
-pub use words::{Job, hosts_of, job_of};
+pub use words::{Job, Line, LineNo, asked, job_of};

@@ -3,6 +3,7 @@ ghost use Rattle.std.specs.Prelude.{◌≡◌, ◌≢◌, ◌≤◌, IfOk, IfSom
 ghost use Rattle.call_effects.specs.Places.{KeepsFiles};
 ghost use Rattle.disk_locks.specs.Sure.{BothTold};
 ghost use Rattle.image_view.specs.Valid.{IsVolume};
+ghost use Rattle.settle.specs.Passes.{Passes};
 ghost use Rattle.shared_disk.specs.Seen.{seen_by};
 ghost use Rattle.solo.specs.Settlings.{HasSettled};
 ghost use Rattle.jobs.specs.Seen.{sink_by};
@@ -39,6 +40,7 @@ pub fn settle<K: Sink, D: Device>(alloc: Global, sink: &mut K, disk: D) -> (Stat
 fn decide<D: Device>(alloc: Global, disk: D) -> (Outcome, D)
     ensures decided { SettleDecides (seen_by D.Device disk) (seen_by D.Device result.1) result.0 }
     ensures files { BothTold (D.state disk).told (D.state result.1).told KeepsFiles }
+    ensures images { Passes (D.state disk) (D.state result.1) }
 {
     let mut disk = disk;
     if let Some(outcome) = judge(alloc, &mut disk) {

@@ -1,5 +1,5 @@
 -- What each step of the plan of a lone host did.
-use Rattle.std.specs.Prelude.{◌≡◌, ◌≢◌, ◌<◌, ◌≤◌, ℕ, None, Option, Some}
+use Rattle.std.specs.Prelude.{◌≡◌, ◌≢◌, ◌<◌, ◌≤◌, ◌+◌, ℕ, None, Option, Some}
 use Rattle.shared_disk.specs.Calls.{last_counter}
 use Rattle.shared_disk.specs.Events.{Acts, Event}
 use Rattle.image_view.specs.HostKeys.{slot_state_at}
@@ -12,7 +12,7 @@ use Rattle.host_facts.specs.Views.{WorldView}
 use Rattle.host_facts.specs.Wrote.{FilesStay, HasValidImage}
 use Rattle.plan_parts.specs.Cuts.{IsCauseOf}
 use Rattle.plan_parts.specs.Steps.{IsReady}
-use Rattle.recover_plan.specs.Lones.{LoneAt, lone_left}
+use Rattle.recover_plan.specs.Lones.{LoneAt, keys_left, lone_left}
 use Rattle.recover_plan.specs.Replays.{HasKey, KeepsLocks, SlotsStay}
 use Rattle.recover_plan.specs.declared.lone.Came.{Came}
 use Rattle.recover_plan.specs.declared.lone.Came.TheVariants.{End, More}
@@ -53,7 +53,7 @@ abbrev pub HasKeyBehind : WorldView → ℕ → Option LoneEnd → Type 0
 HasKeyBehind w h (Some NoKeys) = Unit {0}
 HasKeyBehind w h end = HasKey w h
 
--- a step was made: no file changed, the image is valid, the slots of other hosts are as before, and so is what the host holds and reads;
+-- a step made one device call: no file changed, the image is valid, the slots of other hosts are as before, and so is what the host holds and reads;
 -- its key is registered; what comes next stands, and fewer steps are left
 pub record LoneStepped (h of : ℕ) (v w : WorldView) (stage later : Lone) (end : Option LoneEnd) : Type 0 where
   pub files : FilesStay v w
@@ -61,7 +61,9 @@ pub record LoneStepped (h of : ℕ) (v w : WorldView) (stage later : Lone) (end 
   pub slots : SlotsStay v w of
   pub locks : KeepsLocks h v w
   pub registered : HasKeyBehind w h end
-  pub faults : v.locks.disk.faults ≤ w.locks.disk.faults
+  pub event : Event
+  pub acts : Acts event v.locks.disk w.locks.disk
+  pub keys : counter_of w.locks + keys_left later ≤ counter_of v.locks + keys_left stage
   pub stands : StandsBehind w h of later end
   pub fewer : lone_left w.locks.geometry later < lone_left v.locks.geometry stage
 

@@ -54,6 +54,11 @@ lone_left g (lones.Again stage) = steps_left g stage + 1
 lone_left g (lones.Last dead) = 1
 lone_left g lones.Ended = 0
 
+-- and so many keys are asked for yet
+abbrev pub keys_left : Lone → ℕ
+keys_left lones.Register = 1
+keys_left later = 0
+
 -- the own slot is entered from a free one, and the recovery goes on, at first or behind a claim that found another slot
 abbrev pub entry_by : Bool → Lone
 entry_by false = lones.Enter

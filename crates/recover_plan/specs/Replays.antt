@@ -14,7 +14,7 @@ use Rattle.slot_lock_blocks.specs.declared.slot.Slot.{Slot}
 use Rattle.image_view.specs.Images.{block_at}
 use Rattle.disk_locks.specs.Sure.{BothTold, Sure}
 use Rattle.lock_store.specs.declared.answers.StepNo.{StepNo}
-use Rattle.lock_store.specs.Views.{host_at, key_at, keys_of, told_of}
+use Rattle.lock_store.specs.Views.{counter_of, host_at, key_at, keys_of, told_of}
 use Rattle.lock_store.specs.SlotTries.{slot_by}
 use Rattle.lock_store.specs.declared.answers.StepNo.TheVariants.{Fenced}
 use Rattle.vol_layout.specs.declared.kind.Resource.{Resource}
@@ -93,6 +93,7 @@ pub record Went (h of : ℕ) (v w : WorldView) (stage : Replay) (going : Going) 
   pub stands : StandsBehind w h of going
   pub fewer : AreFewer v.locks.geometry stage going
   pub key : key_at w.locks h ≡ key_at v.locks h
+  pub counter : counter_of w.locks ≡ counter_of v.locks
   pub given : (key : ℕ) → Knows v h (Given key) → Knows w h (Given key)
   pub tables : KeepsTables h v w
   pub slots : SlotsStay v w of

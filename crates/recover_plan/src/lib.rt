@@ -9,8 +9,8 @@
 //!   less than three times. Whatever the notes of a run were that agree with the plan (`Agrees`), the step is a turn of the run
 //!   (`OwesStep`), and the notes behind it agree: with the plan, which stands still, or with a host that is at rest (`RestsWith`). A
 //!   call that was refused is answered as a cut, and its host is dropped. Where there was no memory for a call, the device's state and
-//!   the host's memory are as before (`IsUntouched`). What others rely on stays (`Others`); and what the host itself knows of its tables
-//!   does so at each step of a `beat`, a `look` or a `recover` that is not cut (`TablesStay`).
+//!   the host's memory are as before (`IsUntouched`), and its faults did not fall. What others rely on stays (`Others`); and what the
+//!   host itself knows of its tables does so at each step of a `beat`, a `look` or a `recover` that is not cut (`TablesStay`).
 //! - Over a step of another host, whatever plan that is of, a plan stands still, the notes agree with it, a host at rest stays so, and what
 //!   it remembers of other slots holds (`host_stays`). Over a step of the same host's plan of any command that is none on slots what it
 //!   remembers holds too, but where the host is dropped, and the notes remember the same (`looks_stay`).
@@ -32,9 +32,10 @@
 //! - `recover`: below three looks the answer is `alive` with their count, without a call. A claim that finds another slot is answered by
 //!   it, but for one more claim from a live slot with the same key (`RecoverTo`); a slot that was swept is freed, and the host forgotten.
 //! - `join_at_once`, `recover_at_once`: a host that is alone joins, and recovers another one, without looks. Where the plan may make its step
-//!   (`LoneAt`), `LonePlan::next` makes one device call (`LoneStepped`): no file changes, the image is valid, the slots of other hosts are
-//!   as before, and so is what the host holds and reads; its key is registered, once the device gave it; what comes next stands, and fewer
-//!   steps are left (`lone_left`). At its end (`HasEnded`) the host is ready, and the other one's slot is free; `busy` comes only where the
+//!   (`LoneAt`), each step of `LonePlan::next` is one device call (`LoneStepped`): no file changes, the image is valid, the slots of other
+//!   hosts are as before, and so is what the host holds and reads; its key is registered, once the device gave it; what comes next stands,
+//!   and fewer steps are left (`lone_left`). One key is asked for, by the first step of a `join_at_once`; no other step asks for one
+//!   (`keys_left`). At its end (`HasEnded`) the host is ready, and the other one's slot is free; `busy` comes only where the
 //!   device tells nothing, and `nokeys` only where its counter is at its end. A step that was refused has its cause (`IsRefused`), and is
 //!   never refused for want of a key while the host's one is registered.
 #![tactic(auto)]

@@ -1,5 +1,5 @@
 // The steps of a plan, one device call each.
-ghost use Rattle.std.specs.Prelude.{◌≡◌, IfErr, IfOk};
+ghost use Rattle.std.specs.Prelude.{◌≡◌, ◌≤◌, IfErr, IfOk};
 ghost use Rattle.host_facts.specs.Others.{Others};
 ghost use Rattle.plan_parts.specs.Cuts.{IsCutBy, IsUntouched};
 ghost use Rattle.recover_plan.specs.Nexts.{HasStepped, IsOfPlan, MayStop, first_of};
@@ -39,6 +39,7 @@ impl RecoverPlan {
         requires stands { PlanStands world.old self.old.host watch.old self.old.doing }
         ensures step { IfOk result (HasStepped self.old.host world.old world.new watch.old watch.new self.old.doing self.new.doing) }
         ensures none { IfErr result (λ e. IsUntouched self.old.host world.old world.new) }
+        ensures later { IfErr result (λ e. world.old.locks.disk.faults ≤ world.new.locks.disk.faults) }
         ensures others { Others self.old.host world.old world.new }
         ensures host { self.new.host ≡ self.old.host }
     {
@@ -106,6 +107,7 @@ fn go<D: Device>(
     requires stands { PlanStands world.old host watch.old doing }
     ensures came { IfOk result (Came host world.old world.new watch.old watch.new doing) }
     ensures none { IfErr result (λ e. IsUntouched host world.old world.new) }
+    ensures later { IfErr result (λ e. world.old.locks.disk.faults ≤ world.new.locks.disk.faults) }
     ensures others { Others host world.old world.new }
 {
     let _geometry = world.locks().geometry();

@@ -4,6 +4,7 @@ pub mod Distinct
 pub mod Gathered
 pub mod Links
 pub mod Moves
+pub mod Passes
 pub mod Reads
 pub mod Rows
 pub mod Sound

@@ -2,6 +2,7 @@
 ghost use Rattle.std.specs.Prelude.{◌≡◌, ◌+◌, ◌≤◌, IfErr, IfOk, IfSome, Some, is_none};
 ghost use Rattle.settle.specs.Contents.{held};
 ghost use Rattle.settle.specs.Moves.{Moves};
+ghost use Rattle.settle.specs.Passes.{GoesOn};
 ghost use Rattle.settle.specs.Reads.{IsCompared, ReadsAs, compared_of};
 ghost use Rattle.settle.specs.Sound.{IsSound};
 ghost use Rattle.settle.specs.Stops.{IsStopped};
@@ -41,6 +42,7 @@ pub fn compare<L: Lone>(
     ensures compared { IfOk result (λ compared. IfSome (L.told lone.new) (λ t. IsCompared geometry t.image file index source compared)) }
     ensures moves { OnImages (Moves geometry file index) (L.told lone.old) (L.told lone.new) }
     ensures volume { L.volume lone.new ≡ geometry }
+    ensures on { GoesOn (L.counter lone.old) (L.counter lone.new) (L.told lone.old) (L.told lone.new) }
     ensures began { L.began lone.new ≡ L.began lone.old }
     ensures count { L.answered lone.new ≤ L.answered lone.old + 18 }
     ensures stopped { IfErr result (IsStopped (L.stopped lone.new)) }
@@ -80,6 +82,7 @@ pub fn is_hole<L: Lone>(
     ensures hole { IfOk result (λ hole. IfSome (L.told lone.new) (λ t. hole ≡ is_none (held geometry t.image spot.file spot.index))) }
     ensures moves { OnImages (Moves geometry spot.file spot.index) (L.told lone.old) (L.told lone.new) }
     ensures volume { L.volume lone.new ≡ geometry }
+    ensures on { GoesOn (L.counter lone.old) (L.counter lone.new) (L.told lone.old) (L.told lone.new) }
     ensures began { L.began lone.new ≡ L.began lone.old }
     ensures count { L.answered lone.new ≤ L.answered lone.old + 18 }
     ensures stopped { IfErr result (IsStopped (L.stopped lone.new)) }

@@ -9,6 +9,8 @@
 //!   which are no holes (`live_places`), and `distinct` exactly the number of the different blocks that they hold (`HasContents`).
 //! - Whatever it answers, each change was a link of two places with equal bytes (`Stays`, by its chain `Shares`): every place keeps its bytes,
 //!   and every file and its length stay (`KeepsFiles`).
+//! - From a valid volume on, each image on the way is a valid volume with the files of the first, whatever it answers and wherever it is broken
+//!   off, and no key is given (`GoesOn`, of a `Lone` that says so of each of its calls).
 //! - Where no two different blocks that are live have one SHA-1 (`NoClash`), at most 40 calls of the device are made for each place, holes
 //!   included, and 4 for each file number (`places_of`), whatever it answers. So a place is compared with the places of its own digest alone,
 //!   and with one of those that are equal.

@@ -4,6 +4,7 @@ ghost use Rattle.call_effects.specs.Places.{IsReplyOf};
 ghost use Rattle.vol_base.specs.declared.plain.PlainCall.{PlainCall};
 ghost use Rattle.settle.specs.declared.lone.LoneNo.{LoneNo};
 ghost use Rattle.settle.specs.Links.{Comes, Halts};
+ghost use Rattle.settle.specs.Passes.{GoesOn};
 ghost use Rattle.settle.specs.Stops.{IsStopped};
 ghost use Rattle.share_plans.specs.Places.{field_of};
 ghost use Rattle.shared_disk.specs.Seen.{DiskSeen};
@@ -45,6 +46,9 @@ pub trait Lone {
     /// The device as it was seen when the host began, which never changes.
     ghost began: { Self → DiskSeen };
 
+    /// How many keys the device gave.
+    ghost counter: { Self → ℕ };
+
     /// How many calls of the device were answered.
     ghost answered: { Self → ℕ };
 
@@ -62,6 +66,7 @@ pub trait Lone {
         ensures reply { IfOk result (λ reply. IfSome (told self.old) (λ t. IsReplyOf (volume self.old) (PlainCall.Read file index) reply t.image)) }
         ensures same { told self.new ≡ told self.old }
         ensures volume { volume self.new ≡ volume self.old }
+        ensures counter { counter self.new ≡ counter self.old }
         ensures began { began self.new ≡ began self.old }
         ensures count { answered self.new ≤ answered self.old + 3 }
         ensures stopped { IfErr result (IsStopped (stopped self.new)) };
@@ -75,6 +80,7 @@ pub trait Lone {
         ensures came { IfOk result (λ shared. OnImages (Comes (volume self.old) file index source shared) (told self.old) (told self.new)) }
         ensures refused { IfErr result (λ why. OnImages (Halts (volume self.old) file index source) (told self.old) (told self.new)) }
         ensures volume { volume self.new ≡ volume self.old }
+        ensures on { GoesOn (counter self.old) (counter self.new) (told self.old) (told self.new) }
         ensures began { began self.new ≡ began self.old }
         ensures count { answered self.new ≤ answered self.old + 18 }
         ensures stopped { IfErr result (IsStopped (stopped self.new)) };

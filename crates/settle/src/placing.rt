@@ -5,6 +5,7 @@ ghost use Rattle.indexmap.specs.IndexMap.{index_map_len};
 ghost use Rattle.settle.specs.Contents.{NoClash};
 ghost use Rattle.settle.specs.Gathered.{IsGathered, IsNext, IsNextBlock, IsTable, spot_at};
 ghost use Rattle.settle.specs.Moves.{Stays};
+ghost use Rattle.settle.specs.Passes.{GoesOn};
 ghost use Rattle.settle.specs.Reads.{IsApart};
 ghost use Rattle.settle.specs.Rows.{IsPlaced, PlaceComes, most_calls};
 ghost use Rattle.settle.specs.Stops.{IsRefused};
@@ -37,6 +38,7 @@ pub fn settle_place<L: Lone>(
     ensures table { OnOk result (IsTable geometry (spot_at found.new.spots)) }
     ensures len { index_map_len found.new.spots ≤ index_map_len found.old.spots + 1 }
     ensures volume { L.volume lone.new ≡ geometry }
+    ensures on { GoesOn (L.counter lone.old) (L.counter lone.new) (L.told lone.old) (L.told lone.new) }
     ensures began { L.began lone.new ≡ L.began lone.old }
     ensures count { IfSome (L.told lone.old) (λ t. NoClash geometry t.image → L.answered lone.new ≤ L.answered lone.old + most_calls geometry t.image spot.file spot.index) }
     ensures stopped { IfErr result (IsRefused (L.stopped lone.new)) }
@@ -69,6 +71,7 @@ fn settle_block<L: Lone>(
     ensures table { OnOk result (IsTable geometry (spot_at found.new.spots)) }
     ensures len { index_map_len found.new.spots ≤ index_map_len found.old.spots + 1 }
     ensures volume { L.volume lone.new ≡ geometry }
+    ensures on { GoesOn (L.counter lone.old) (L.counter lone.new) (L.told lone.old) (L.told lone.new) }
     ensures began { L.began lone.new ≡ L.began lone.old }
     ensures count { IfSome (L.told lone.old) (λ t. NoClash geometry t.image → L.answered lone.new ≤ L.answered lone.old + 36) }
     ensures stopped { IfErr result (IsRefused (L.stopped lone.new)) }
@@ -106,6 +109,7 @@ fn settle_fresh<L: Lone>(
     ensures table { OnOk result (IsTable geometry (spot_at found.new.spots)) }
     ensures len { index_map_len found.new.spots ≤ index_map_len found.old.spots + 1 }
     ensures volume { L.volume lone.new ≡ geometry }
+    ensures on { GoesOn (L.counter lone.old) (L.counter lone.new) (L.told lone.old) (L.told lone.new) }
     ensures began { L.began lone.new ≡ L.began lone.old }
     ensures count { L.answered lone.new ≤ L.answered lone.old + 18 }
     ensures stopped { IfErr result (IsRefused (L.stopped lone.new)) }

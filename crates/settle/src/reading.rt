@@ -1,5 +1,6 @@
 // The read of a place.
 ghost use Rattle.std.specs.Prelude.{◌≡◌, ◌+◌, ◌<◌, ◌≤◌, IfErr, IfOk, IfSome};
+ghost use Rattle.settle.specs.Passes.{GoesOn};
 ghost use Rattle.settle.specs.Reads.{ReadsAs, block_in};
 ghost use Rattle.settle.specs.Sound.{IsSound};
 ghost use Rattle.settle.specs.Stops.{IsStopped};
@@ -21,6 +22,7 @@ pub fn read_block<L: Lone>(
     ensures read { IfOk result (λ block. IfSome (L.told lone.old) (λ t. ReadsAs geometry t.image file index block)) }
     ensures same { L.told lone.new ≡ L.told lone.old }
     ensures volume { L.volume lone.new ≡ geometry }
+    ensures on { GoesOn (L.counter lone.old) (L.counter lone.new) (L.told lone.old) (L.told lone.new) }
     ensures began { L.began lone.new ≡ L.began lone.old }
     ensures count { L.answered lone.new ≤ L.answered lone.old + 3 }
     ensures stopped { IfErr result (IsStopped (L.stopped lone.new)) }

@@ -2,6 +2,7 @@
 ghost use Rattle.std.specs.Prelude.{◌≡◌, ◌+◌, ◌*◌, ◌≤◌, ℕ, IfErr, IfOk, IfSome, None};
 ghost use Rattle.settle.specs.Gathered.{IsTable, spot_at};
 ghost use Rattle.settle.specs.Moves.{Moves};
+ghost use Rattle.settle.specs.Passes.{GoesOn};
 ghost use Rattle.settle.specs.Reads.{IsNumbered, IsSought};
 ghost use Rattle.settle.specs.Sound.{IsSound};
 ghost use Rattle.settle.specs.Stops.{IsRefused};
@@ -43,6 +44,7 @@ pub fn seek<L: Lone>(
     ensures numbered { IfOk result (IsNumbered (spot_at found.now.spots) digest) }
     ensures moves { OnImages (Moves geometry spot.file spot.index) (L.told lone.old) (L.told lone.new) }
     ensures volume { L.volume lone.new ≡ geometry }
+    ensures on { GoesOn (L.counter lone.old) (L.counter lone.new) (L.told lone.old) (L.told lone.new) }
     ensures began { L.began lone.new ≡ L.began lone.old }
     ensures count { (n : ℕ) → spot_at found.now.spots digest n ≡ None → L.answered lone.new ≤ L.answered lone.old + 18 * n }
     ensures stopped { IfErr result (IsRefused (L.stopped lone.new)) }

@@ -7,6 +7,7 @@ ghost use Rattle.settle.specs.Contents.{NoClash};
 ghost use Rattle.settle.specs.Distinct.{HasContents};
 ghost use Rattle.settle.specs.Gathered.{IsGathered, IsTable, spot_at};
 ghost use Rattle.settle.specs.Moves.{Stays};
+ghost use Rattle.settle.specs.Passes.{GoesOn};
 ghost use Rattle.settle.specs.Rows.{IsCut, IsRun, IsWholeRow, most_in_all, most_in_file};
 ghost use Rattle.settle.specs.Sound.{IsSound};
 ghost use Rattle.settle.specs.Stops.{IsRefused};
@@ -42,6 +43,7 @@ pub fn settle<L: Lone>(alloc: Global, lone: &mut L) -> Result<Settled, LoneNo>
     ensures distinct { IfOk result (λ settled. IfSome (L.told lone.old) (λ t. HasContents (L.volume lone.old) t.image settled.distinct)) }
     ensures count { IfSome (L.told lone.old) (λ t. NoClash (L.volume lone.old) t.image
         → L.answered lone.new ≤ L.answered lone.old + (40 * places_of (L.volume lone.old) t.image + 4 * (L.volume lone.old).files)) }
+    ensures on { GoesOn (L.counter lone.old) (L.counter lone.new) (L.told lone.old) (L.told lone.new) }
     ensures began { L.began lone.new ≡ L.began lone.old }
     ensures stopped { IfErr result (IsRefused (L.stopped lone.new)) }
 {
@@ -73,6 +75,7 @@ fn settle_files<L: Lone>(
     ensures cut { IfErr result (λ why. OnImages (IsCut geometry (most_in_all geometry) (L.answered lone.old) (L.answered lone.new)) (L.told lone.old) (L.told lone.new)) }
     ensures len { index_map_len found.new.spots ≤ 16128 * geometry.files }
     ensures volume { L.volume lone.new ≡ geometry }
+    ensures on { GoesOn (L.counter lone.old) (L.counter lone.new) (L.told lone.old) (L.told lone.new) }
     ensures began { L.began lone.new ≡ L.began lone.old }
     ensures stopped { IfErr result (IsRefused (L.stopped lone.new)) }
 {
@@ -106,6 +109,7 @@ fn settle_file<L: Lone>(
     ensures table { OnOk result (IsTable geometry (spot_at found.new.spots)) }
     ensures len { index_map_len found.new.spots ≤ index_map_len found.old.spots + 16128 }
     ensures volume { L.volume lone.new ≡ geometry }
+    ensures on { GoesOn (L.counter lone.old) (L.counter lone.new) (L.told lone.old) (L.told lone.new) }
     ensures began { L.began lone.new ≡ L.began lone.old }
     ensures stopped { IfErr result (IsRefused (L.stopped lone.new)) }
 {

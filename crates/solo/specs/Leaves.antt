@@ -1,16 +1,16 @@
 -- What holds of a host that leaves.
-use Rattle.std.specs.Prelude.{◌≡◌, ◌≢◌, ◌≤◌, ℕ, Contains, Err, List, Ok, Option, Result}
+use Rattle.std.specs.Prelude.{◌≡◌, ◌≢◌, ℕ, Contains, Err, List, Ok, Option, Result}
 use Rattle.vol_base.specs.declared.answer.Answer.{Answer}
 use Rattle.vol_base.specs.declared.answer.Answer.TheVariants.{Cut, Fine}
 use Rattle.vol_base.specs.declared.answer.CutBy.TheVariants.{Bad, Fault}
 use Rattle.vol_base.specs.declared.command.Command.TheVariants.{Leave}
 use Rattle.lock_store.specs.Views.{key_at, keys_of}
 use Rattle.host_facts.specs.Views.{WorldView}
-use Rattle.host_facts.specs.Wrote.{FilesStay}
 use Rattle.host_runs.specs.Notes.{Notes}
 use Rattle.recover_plan.specs.KeptVolumes.{KeepsVolume}
 use Rattle.recover_plan.specs.Plans.{Agrees, PlanStands, command_of}
 use Rattle.recover_plan.specs.declared.plan.Doing.{Doing}
+use Rattle.solo.specs.Alone.{IsLater}
 use Rattle.watch.specs.declared.watch.Look.{Look}
 use Rattle.settle.specs.declared.lone.LoneNo.{LoneNo}
 use Rattle.settle.specs.declared.lone.LoneNo.TheVariants as refusals
@@ -36,7 +36,5 @@ pub record IsLeaving (v w : WorldView) (h : ℕ) (watch : List (Option Look)) (d
   pub noted : (n : Notes) × Agrees h w watch doing n
   pub some : key_at w.locks h ≢ 0
   pub registered : Contains (keys_of w.locks) (key_at w.locks h)
-  pub geometry : w.locks.geometry ≡ v.locks.geometry
-  pub later : v.locks.disk.faults ≤ w.locks.disk.faults
-  pub files : FilesStay v w
+  pub later : IsLater 0 v w
   pub volume : KeepsVolume v w

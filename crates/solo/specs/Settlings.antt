@@ -1,29 +1,17 @@
 -- What a volume is that was settled.
-use Rattle.std.specs.Prelude.{◌≡◌, Err, None, Ok, Result}
-use Rattle.vol_base.specs.Faults.{Rose}
+use Rattle.std.specs.Prelude.{◌≡◌, Err, Ok, Result}
 use Rattle.image_view.specs.Images.{Image, geometry_of}
 use Rattle.image_view.specs.Settled.{IsSettled}
 use Rattle.settle.specs.Distinct.{HasContents}
 use Rattle.settle.specs.Totals.{live_places}
 use Rattle.settle.specs.declared.lone.LoneNo.{LoneNo}
-use Rattle.settle.specs.declared.lone.LoneNo.TheVariants as refusals
 use Rattle.settle.specs.declared.settling.Settled.{Settled}
-use Rattle.shared_disk.specs.Calls.{last_counter}
-use Rattle.shared_disk.specs.Seen.{DiskSeen}
 
 -- any two live places with equal bytes show one data block, so many places are live, and they hold so many different blocks
 pub record HasSettled (counts : Settled) (image : Image) : Type 0 where
   pub settled : IsSettled image
   pub live : counts.live ≡ live_places (geometry_of image) image
   pub distinct : HasContents (geometry_of image) image counts.distinct
-
--- why a volume was not settled; of the key of another host nothing is said
-abbrev pub HasSettleCause : DiskSeen → DiskSeen → LoneNo → Type 0
-HasSettleCause old new refusals.Failed = Rose old.faults new.faults
-HasSettleCause old new refusals.Full = ⊥
-HasSettleCause old new (refusals.Bad place) = old.state.told ≡ None
-HasSettleCause old new refusals.NoKeys = new.state.counter ≡ last_counter
-HasSettleCause old new other = Unit {0}
 
 -- what is answered of the work and of the leave behind it: a refusal of the work comes first
 abbrev pub both_of : Result Settled LoneNo → Result Unit LoneNo → Result Settled LoneNo

@@ -11,7 +11,6 @@ use Rattle.image_view.specs.Records.{IsEdited}
 use Rattle.lock_store.specs.Views.{key_at, keys_of, told_of}
 use Rattle.disk_locks.specs.Sure.{BothTold}
 use Rattle.host_facts.specs.Views.{WorldView}
-use Rattle.host_facts.specs.Wrote.{FilesStay}
 use Rattle.host_runs.specs.Notes.{Notes}
 use Rattle.plan_parts.specs.QuietCalls.{Noted}
 use Rattle.share_plans.specs.Causes.{IsApartAt}
@@ -27,7 +26,7 @@ use Rattle.share_plans.specs.declared.sharing.Shared.TheVariants as answers
 use Rattle.share_plans.specs.declared.stage.Core.{Core}
 use Rattle.share_plans.specs.declared.stage.Stage.{Stage}
 use Rattle.lock_store.specs.declared.answers.StepNo.{StepNo}
-use Rattle.solo.specs.Alone.{IsAlone}
+use Rattle.solo.specs.Alone.{AreFree, IsAlone, IsLater}
 use Rattle.settle.specs.declared.lone.LoneNo.{LoneNo}
 use Rattle.settle.specs.declared.lone.LoneNo.TheVariants as refusals
 use Rattle.solo.specs.Stops.{IsCause}
@@ -93,12 +92,18 @@ abbrev pub IsKnown : WorldView → WorldView → ℕ → ℕ → Place → Optio
 IsKnown v w f i source None = ChangesNothing v w
 IsKnown v w f i source (Some answer) = HasCome v w f i source answer
 
+-- a key of another host is shown only where the device tells nothing
+abbrev pub IsUnshown : WorldView → Option Shared → Type 0
+IsUnshown w (Some (answers.Busy key)) = told_of w.locks ≡ None
+IsUnshown w known = Unit {0}
+
 -- what holds of a host behind each step of its share, since the beginning
 pub record IsSharing (v w : WorldView) (h f i : ℕ) (source : Place) (known : Option Shared) : Type 0 where
   pub keeps : KeepsHolds h v w
   pub registered : Contains (keys_of w.locks) (key_at w.locks h)
-  pub later : v.locks.disk.faults ≤ w.locks.disk.faults
-  pub files : FilesStay v w
+  pub later : IsLater 0 v w
+  pub free : AreFree w w.locks.geometry.hosts
+  pub unshown : IsUnshown w known
   pub noted : (n : Notes) × Noted Merge h w (outcome_by known) n
   pub changed : IsKnown v w f i source known
 
@@ -116,16 +121,13 @@ pub record IsOnWay (v w : WorldView) (f i : ℕ) (source : Place) (core : Core) 
 pub record HasShared (v w : WorldView) (f i : ℕ) (source : Place) (answer : Shared) : Type 0 where
   pub alone : IsAlone w
   pub came : HasCome v w f i source answer
-  pub files : FilesStay v w
-  pub geometry : w.locks.geometry ≡ v.locks.geometry
-  pub later : v.locks.disk.faults ≤ w.locks.disk.faults
+  pub unshown : IsUnshown w (Some answer)
+  pub later : IsLater 0 v w
 
 -- or one of its steps was refused
 pub record HasStopped (v w : WorldView) (f i : ℕ) (source : Place) (why : StepNo) : Type 0 where
   pub halted : HasHalted v w f i source
-  pub files : FilesStay v w
-  pub geometry : w.locks.geometry ≡ v.locks.geometry
-  pub later : v.locks.disk.faults ≤ w.locks.disk.faults
+  pub later : IsLater 0 v w
   pub cause : IsCause v w why
 
 -- the place of a share and its source are of the volume

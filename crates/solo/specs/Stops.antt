@@ -34,13 +34,15 @@ IsCause v w steps.Failed = Rose v.locks.disk.faults w.locks.disk.faults
 IsCause v w (steps.Bad place) = told_of v.locks ≡ None
 IsCause v w steps.NoMemory = Unit {0}
 
--- the same by the refusal of the call. No key is asked for, and a full volume stops no host
+-- the same by the refusal of the call; a key of another host is met only where the device tells nothing. No key is asked for, and a full
+-- volume stops no host
 abbrev pub HasCause : DiskSeen → DiskSeen → LoneNo → Type 0
 HasCause old new refusals.Failed = Rose old.faults new.faults
 HasCause old new (refusals.Bad place) = old.state.told ≡ None
+HasCause old new (refusals.Busy key) = old.state.told ≡ None
 HasCause old new refusals.NoKeys = ⊥
 HasCause old new refusals.Full = ⊥
-HasCause old new other = Unit {0}
+HasCause old new refusals.NoMemory = Unit {0}
 
 -- a step was refused: one call was made, which left the device as it was
 pub record IsCutOff (v w : WorldView) (why : StepNo) : Type 0 where

@@ -4,6 +4,8 @@ pub mod BeginLaws
 pub mod CloseLaws
 pub mod ComesLaws
 pub mod HoldLaws
+pub mod KeylessLaws
+pub mod LaterLaws
 pub mod LeaveLaws
 pub mod LoneLaws
 pub mod NotableLaws

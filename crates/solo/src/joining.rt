@@ -1,7 +1,8 @@
 // A plan of a lone host that is driven to its end: it joins, or recovers another host.
 ghost use Rattle.std.specs.Prelude.{◌≡◌, IfErr, OnOk};
-ghost use Rattle.recover_plan.specs.Lones.{LoneAt};
-ghost use Rattle.solo.specs.Starts.{HasStartCause, IsJoined, IsKeyOpen, IsLater, ended_by};
+ghost use Rattle.recover_plan.specs.Lones.{LoneAt, keys_left};
+ghost use Rattle.solo.specs.Alone.{IsLater};
+ghost use Rattle.solo.specs.Starts.{HasStartCause, IsJoined, IsKeyOpen, ended_by};
 
 use crate::reading::SOLO;
 use crate::refusal::refusal_of;
@@ -15,7 +16,7 @@ pub fn drives<D: Device>(world: &mut MetaWorld<D>, plan: LonePlan) -> Result<(),
     requires host { plan.host ≡ 0 }
     requires at { LoneAt world.old 0 plan.of plan.stage }
     requires open { IsKeyOpen world.old 0 }
-    ensures later { IsLater world.old world.new }
+    ensures later { IsLater (keys_left plan.stage) world.old world.new }
     ensures joined { OnOk result (IsJoined world.old world.new plan.of) }
     ensures cause { IfErr result (HasStartCause world.old.locks.disk world.new.locks.disk) }
 {

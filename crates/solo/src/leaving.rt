@@ -1,9 +1,8 @@
 // A leave that is driven to its end.
 ghost use Rattle.std.specs.Prelude.{◌≡◌, ◌≤◌, IfErr, OnOk};
-ghost use Rattle.host_facts.specs.Wrote.{FilesStay};
 ghost use Rattle.recover_plan.specs.KeptVolumes.{KeepsVolume};
 ghost use Rattle.recover_plan.specs.LoneSteps.{IsSlotFree};
-ghost use Rattle.solo.specs.Alone.{IsAlone};
+ghost use Rattle.solo.specs.Alone.{IsAlone, IsLater};
 ghost use Rattle.solo.specs.Leaves.{IsLeft, left_by};
 ghost use Rattle.solo.specs.Stops.{HasCause};
 
@@ -18,11 +17,9 @@ use watch::Watch;
 /// Frees the locks of all files and the slot, and takes the own key off.
 pub fn leaves<D: Device>(world: &mut MetaWorld<D>) -> Result<(), LoneNo>
     requires alone { IsAlone world.old }
-    ensures files { FilesStay world.old world.new }
-    ensures volume { world.new.locks.geometry ≡ world.old.locks.geometry }
+    ensures later { IsLater 0 world.old world.new }
     ensures free { OnOk result (IsSlotFree world.new 0) }
     ensures kept { OnOk result (KeepsVolume world.old world.new) }
-    ensures later { OnOk result (world.old.locks.disk.faults ≤ world.new.locks.disk.faults) }
     ensures cause { IfErr result (HasCause world.old.locks.disk world.new.locks.disk) }
 {
     let _geometry = world.locks().geometry();

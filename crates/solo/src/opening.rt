@@ -1,7 +1,7 @@
 // The opening of a device for a host that is alone: which volume stands there.
 ghost use Rattle.std.specs.Prelude.{◌≡◌, ◌≤◌, Contains, IfErr, IfOk};
 ghost use Rattle.shared_disk.specs.Seen.{seen_by};
-ghost use Rattle.solo.specs.Starts.{HasStartCause, IsOpenAs, TellsVolume};
+ghost use Rattle.solo.specs.Starts.{HasStartCause, IsGiven, IsOpenAs, TellsVolume};
 
 use crate::reading::SOLO;
 use crate::refusal::refused;
@@ -16,6 +16,7 @@ pub fn open<D: Device>(disk: &mut D) -> Result<Geometry, LoneNo>
     ensures opened { IfOk result (λ geometry. IsOpenAs geometry (D.state disk.new)) }
     ensures volume { TellsVolume (D.state disk.new) }
     ensures told { (D.state disk.new).told ≡ (D.state disk.old).told }
+    ensures given { IsGiven 1 (D.state disk.old) (D.state disk.new) }
     ensures cause { IfErr result (HasStartCause (seen_by D.Device disk.old) (seen_by D.Device disk.new)) }
     ensures later { D.faults disk.old ≤ D.faults disk.new }
 {

@@ -1,5 +1,5 @@
 // The host as settling needs it.
-ghost use Rattle.solo.specs.Views.{calls_of, told, volume};
+ghost use Rattle.solo.specs.Views.{calls_of, state_of, told, volume};
 
 use crate::solo::Solo;
 use settle::{Lone, LoneNo};
@@ -14,6 +14,8 @@ impl<D: Device> Lone for Solo<D> {
     ghost told = { λ s. told s };
 
     ghost began = { λ s. s.began };
+
+    ghost counter = { λ s. (state_of s).counter };
 
     ghost answered = { λ s. calls_of s };
 

@@ -7,6 +7,7 @@ ghost use Rattle.file_plans.specs.Bases.{IsCached};
 ghost use Rattle.host_facts.specs.Wrote.{HasValidImage};
 ghost use Rattle.image_view.specs.HostKeys.{slot_state_at};
 ghost use Rattle.image_view.specs.Valid.{IsValid};
+ghost use Rattle.settle.specs.Passes.{GoesOn};
 ghost use Rattle.shared_disk.specs.Seen.{seen_by};
 ghost use Rattle.solo.specs.Alone.{IsAlone, KeepsNothing};
 ghost use Rattle.solo.specs.Shares.{Comes, Halts, HasBoth, IsKeyOf, IsNoKey};
@@ -98,7 +99,7 @@ impl<D: Device> Solo<D> {
     }
 
     /// Makes a file's block at an index share its place with the source, where both have data blocks of equal bytes: the answer, which is
-    /// never `Busy`. It makes at most eighteen device calls, and no file changes, whatever is answered.
+    /// never `Busy`; a key of another host refuses the call. It makes at most eighteen device calls, and no file changes, whatever is answered.
     pub fn compare_share(
         &mut self,
         file: FileNo,
@@ -110,6 +111,7 @@ impl<D: Device> Solo<D> {
         ensures named { IfOk result IsNoKey }
         ensures halted { IfErr result (λ no. OnBoth self.old self.new (Halts (volume self.old) file index source)) }
         ensures files { OnBoth self.old self.new KeepsFiles }
+        ensures on { GoesOn (state_of self.old).counter (state_of self.new).counter (told self.old) (told self.new) }
         ensures volume { volume self.new ≡ volume self.old }
         ensures began { self.new.began ≡ self.old.began }
         ensures few { calls_of self.new ≤ calls_of self.old + 18 }
@@ -132,6 +134,7 @@ impl<D: Device> Solo<D> {
     pub fn close(self) -> (D, Result<(), LoneNo>)
         ensures files { BothTold (told self) (D.state result.0).told KeepsFiles }
         ensures valid { IfSome (D.state result.0).told (λ t. IsValid (volume self) (D.state result.0).counter t.image) }
+        ensures on { GoesOn (state_of self).counter (D.state result.0).counter (told self) (D.state result.0).told }
         ensures free { OnOk result.1 (IfSome (D.state result.0).told (λ t. slot_state_at (volume self) t.image 0 ≡ 0)) }
         ensures kept { OnOk result.1 (BothTold (told self) (D.state result.0).told (Changes (volume self) [] None)) }
         ensures again { IfSome self.stopped (λ no. result.1 ≡ Err no) }

@@ -3,8 +3,8 @@ ghost use Rattle.std.specs.Prelude.{◌≡◌, IfErr, IfOk, OnOk};
 ghost use Rattle.lock_store.specs.Memories.{dropped};
 ghost use Rattle.lock_store.specs.Views.{host_at};
 ghost use Rattle.shared_disk.specs.Seen.{seen_by};
-ghost use Rattle.solo.specs.Alone.{IsAlone};
-ghost use Rattle.solo.specs.Starts.{HasRefused, HasStartCause, HasStarted, IsLater, IsTaking, TellsVolume};
+ghost use Rattle.solo.specs.Alone.{IsAlone, IsLater};
+ghost use Rattle.solo.specs.Starts.{HasRefused, HasStartCause, HasStarted, IsTaking, TellsVolume};
 
 use crate::joining::drives;
 use crate::opening::open;
@@ -49,7 +49,7 @@ impl<D: Device> Solo<D> {
 // Joins, recovers every other host, and takes every file.
 fn begins<D: Device>(world: &mut MetaWorld<D>) -> Result<(), LoneNo>
     requires out { host_at world.old.locks 0 ≡ dropped }
-    ensures later { IsLater world.old world.new }
+    ensures later { IsLater 1 world.old world.new }
     ensures alone { OnOk result (IsAlone world.new) }
     ensures cause { IfErr result (HasStartCause world.old.locks.disk world.new.locks.disk) }
 {
@@ -68,7 +68,7 @@ fn begins<D: Device>(world: &mut MetaWorld<D>) -> Result<(), LoneNo>
 // Joins, and recovers every other host.
 fn recovers<D: Device>(world: &mut MetaWorld<D>) -> Result<(), LoneNo>
     requires out { host_at world.old.locks 0 ≡ dropped }
-    ensures later { IsLater world.old world.new }
+    ensures later { IsLater 1 world.old world.new }
     ensures recovered { OnOk result (IsTaking world.new 0) }
     ensures cause { IfErr result (HasStartCause world.old.locks.disk world.new.locks.disk) }
 {
@@ -91,7 +91,7 @@ fn recovers<D: Device>(world: &mut MetaWorld<D>) -> Result<(), LoneNo>
 // Takes every file.
 fn takes_all<D: Device>(world: &mut MetaWorld<D>) -> Result<(), LoneNo>
     requires taking { IsTaking world.old 0 }
-    ensures later { IsLater world.old world.new }
+    ensures later { IsLater 0 world.old world.new }
     ensures alone { OnOk result (IsAlone world.new) }
     ensures cause { IfErr result (HasStartCause world.old.locks.disk world.new.locks.disk) }
 {

@@ -1,6 +1,7 @@
 // The write hold of a file, which a lone host takes.
 ghost use Rattle.std.specs.Prelude.{◌<◌, ◌+◌, IfErr, OnOk};
-ghost use Rattle.solo.specs.Starts.{HasStartCause, IsLater, IsTaking};
+ghost use Rattle.solo.specs.Alone.{IsLater};
+ghost use Rattle.solo.specs.Starts.{HasStartCause, IsTaking};
 
 use crate::reading::SOLO;
 use crate::refusal::refusal_of;
@@ -14,7 +15,7 @@ use vol_base::FileNo;
 pub fn takes<D: Device>(world: &mut MetaWorld<D>, file: FileNo) -> Result<(), LoneNo>
     requires taking { IsTaking world.old file }
     requires file { file < world.old.locks.geometry.files }
-    ensures later { IsLater world.old world.new }
+    ensures later { IsLater 0 world.old world.new }
     ensures taken { OnOk result (IsTaking world.new (file + 1)) }
     ensures cause { IfErr result (HasStartCause world.old.locks.disk world.new.locks.disk) }
 {

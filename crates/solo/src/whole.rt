@@ -2,9 +2,10 @@
 ghost use Rattle.std.specs.Prelude.{◌≡◌, ◌≤◌, IfErr, IfOk, IfSome, OnOk};
 ghost use Rattle.call_effects.specs.Places.{KeepsFiles};
 ghost use Rattle.disk_locks.specs.Sure.{BothTold};
+ghost use Rattle.settle.specs.Passes.{Passes};
 ghost use Rattle.shared_disk.specs.Seen.{seen_by};
-ghost use Rattle.solo.specs.Settlings.{HasSettleCause, HasSettled, both_of};
-ghost use Rattle.solo.specs.Starts.{TellsVolume};
+ghost use Rattle.solo.specs.Settlings.{HasSettled, both_of};
+ghost use Rattle.solo.specs.Starts.{HasStartCause, IsGiven, TellsVolume};
 
 use crate::solo::Solo;
 use settle::{LoneNo, Settled, settle};
@@ -19,7 +20,9 @@ pub fn settle_volume<D: Device>(alloc: Global, disk: D) -> (Result<Settled, Lone
     ensures files { BothTold (D.state disk).told (D.state result.1).told KeepsFiles }
     ensures volume { TellsVolume (D.state result.1) }
     ensures later { OnOk result.0 (D.faults disk ≤ D.faults result.1) }
-    ensures cause { IfErr result.0 (HasSettleCause (seen_by D.Device disk) (seen_by D.Device result.1)) }
+    ensures passes { Passes (D.state disk) (D.state result.1) }
+    ensures given { IsGiven 2 (D.state disk) (D.state result.1) }
+    ensures cause { IfErr result.0 (HasStartCause (seen_by D.Device disk) (seen_by D.Device result.1)) }
 {
     let mut solo = match Solo::start(alloc, disk) {
         Ok(solo) => solo,

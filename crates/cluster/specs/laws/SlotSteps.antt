@@ -85,7 +85,7 @@ module _ (v w : WorldView) (c d e : Cache) (h : ℕ) (others : Others h v w) (wa
   slots_cached command step first tables then = forgotten first step.next then
 
 -- what is kept for others stays
-forgets_leaves : (c d : Cache) (h : ℕ) → ForgetsHost c d h → LeavesOthers h c d
+pub forgets_leaves : (c d : Cache) (h : ℕ) → ForgetsHost c d h → LeavesOthers h c d
 forgets_leaves c d h forgets = record { volume = forgets.volume; others = λ x t can other. forgets.others x t can other }
 
 same_leaves : (c d : Cache) (h : ℕ) → d ≡ c → LeavesOthers h c d

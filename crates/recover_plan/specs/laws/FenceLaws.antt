@@ -73,7 +73,7 @@ use Rattle.recover_plan.specs.laws.StepLaws.{locks_else, there_on}
 use Rattle.shared_disk.specs.laws.CalledLaws.{key_called}
 use Rattle.std.specs.Prelude.{Contains}
 use Rattle.recover_plan.specs.Replays.{HasKey, IsMet}
-use Rattle.recover_plan.specs.laws.StepLaws.{key_kept, key_looked, locks_by, locks_same, shut_out}
+use Rattle.recover_plan.specs.laws.StepLaws.{counter_kept, key_kept, key_looked, locks_by, locks_same, shut_out}
 
 -- the key of a slot that is not free is one
 pub key_fits : (slot : Slot) → IsSlot slot → slot_key slot ≢ 0 → IsKey (slot_key slot)
@@ -184,6 +184,7 @@ module _ (v w : WorldView) (h of : ℕ) (is : Consistent v.locks) (later : Consi
       unshown = λ taken none block shows. absurd cc;
       no_entry = λ old key swaps. no_test old (slot_bytes (slots.Live key 0)) swaps;
       key = ap key_of did.mine;
+      counter = counter_kept _ _ _ did.acts tt;
       given = λ key. fenced.facts (Given key);
       tables = λ t p. fenced.facts (TableIs t p);
       slots = slots_same v w of fenced.told;
@@ -245,6 +246,7 @@ module _ (v w : WorldView) (h of : ℕ) (is : Consistent v.locks) (later : Consi
       unshown = λ taken none block shows. absurd cc;
       no_entry = λ old key swaps. no_test old (slot_bytes (slots.Live key 0)) swaps;
       key = ap key_of did.mine;
+      counter = counter_kept _ _ _ did.acts tt;
       given = λ key. fenced.facts (Given key);
       tables = λ t p. fenced.facts (TableIs t p);
       slots = slots_same v w of fenced.told;
@@ -289,6 +291,7 @@ module _ (v w : WorldView) (h of : ℕ) (is : Consistent v.locks) (later : Consi
           let written = new_block swaps.0 old (slot_bytes (slots.Live live 0)) swaps.2.0 in
           one_is_no_two (slot_says (slots.Live live 0)) (sym (ap state_in written) ∙ slot_says to);
       key = ap key_of did.mine;
+      counter = counter_kept _ _ _ did.acts tt;
       given = λ x. claimed.facts (Given x);
       tables = λ t p. claimed.facts (TableIs t p);
       slots = slots_written v w of (kinds.Slot of) (slot_bytes to) seen.base.below (λ y ne same. ne (let one : y ≡ of = cc in one))
@@ -352,6 +355,7 @@ module _ (v w : WorldView) (h of : ℕ) (is : Consistent v.locks) (later : Consi
       unshown = λ taken. absurd taken;
       no_entry = λ old live swaps. let no : Shows (slot_bytes found) ≡ Done = swaps.2.1 in absurd cc;
       key = ap key_of looks.memory;
+      counter = counter_kept _ _ _ did.0.acts tt;
       given = λ x. looks.facts (Given x);
       tables = λ t p. looks.facts (TableIs t p);
       slots = slots_same v w of (ap (λ (s : State). s.told) looks.state);

@@ -5,6 +5,7 @@ use Rattle.std.proofs.lemmas.List.{get_or-replicate}
 use Rattle.vol_base.specs.declared.block.Key.{Key}
 use Rattle.vol_base.specs.declared.command.Command.TheVariants as commands
 use Rattle.vol_layout.specs.declared.geometry.Geometry.{Geometry}
+use Rattle.shared_disk.specs.Events.{Acts, Event}
 use Rattle.shared_disk.specs.State.{Told}
 use Rattle.slot_lock_blocks.specs.declared.slot.Slot.{Slot}
 use Rattle.slot_lock_blocks.specs.declared.slot.Slot.TheVariants as slots
@@ -21,7 +22,7 @@ use Rattle.host_facts.specs.Others.{Others}
 use Rattle.host_facts.specs.Views.{WorldView}
 use Rattle.host_facts.specs.laws.ToldLaws.{map_told}
 use Rattle.recover_plan.specs.LoneSteps.{IsRefused, IsSlotFree, LoneCame}
-use Rattle.recover_plan.specs.Lones.{IsLone, IsOnWay, LoneAt, found_by, has_key, lone_left, on_by}
+use Rattle.recover_plan.specs.Lones.{IsLone, IsOnWay, LoneAt, found_by, has_key, keys_left, lone_left, on_by}
 use Rattle.recover_plan.specs.Plans.{IsRecovering, PlanStands}
 use Rattle.recover_plan.specs.Recoveries.{IsSameLive}
 use Rattle.recover_plan.specs.Replays.{IsCutAt, Went}
@@ -49,12 +50,12 @@ use Rattle.vol_layout.specs.declared.kind.Kind.TheVariants as kinds
 use Rattle.recover_plan.specs.laws.StageLaws.{again_seen}
 use Rattle.recover_plan.specs.laws.CallsLeftLaws.{some_left}
 use Rattle.recover_plan.specs.laws.FreeLaws as freed
-use Rattle.recover_plan.specs.laws.LoneLaws.{refused_by}
+use Rattle.recover_plan.specs.laws.LoneLaws.{keys_kept, refused_by}
 use Rattle.recover_plan.specs.laws.RegisterLaws.{nothing_watched}
 use Rattle.recover_plan.specs.laws.StageLaws.{base_of}
 use Rattle.recover_plan.specs.LoneSteps.{HasKeyBehind}
 use Rattle.recover_plan.specs.Replays.{HasKey}
-use Rattle.recover_plan.specs.laws.StepLaws.{key_kept, locks_by, locks_same}
+use Rattle.recover_plan.specs.laws.StepLaws.{AsksNoKey, counter_kept, key_kept, locks_by, locks_same}
 use Rattle.lock_store.specs.declared.host.HostState.{HostState}
 
 -- at most so many steps are left behind a claim
@@ -65,6 +66,10 @@ claims_left g true = 1
 on_left : (g : Geometry) (again : Bool) (stage : Replay) → lone_left g (on_by again stage) ≡ steps_left g stage + claims_left g again
 on_left g false stage = omega arith
 on_left g true stage = refl
+
+none_left : (again : Bool) (stage : Replay) → keys_left (on_by again stage) ≡ 0
+none_left false stage = refl
+none_left true stage = refl
 
 on_at : (v : WorldView) (h of : ℕ) (again : Bool) (stage : Replay) → IsOnWay v h of stage → LoneAt v h of (on_by again stage)
 on_at v h of false stage is = is
@@ -79,16 +84,18 @@ module _ (v w : WorldView) (h of : ℕ) (again : Bool) (stage : Replay) (is : Is
 
   -- a step made one call: no file changed, and the image is valid
   stepped : (came : Came) (going : Going) → Went h of v w stage going → (HasKey w h → HasKeyBehind w h (end_of came))
-      → StandsBehind w h of (later_of came) (end_of came)
+      → keys_left (later_of came) ≡ 0 → StandsBehind w h of (later_of came) (end_of came)
       → lone_left w.locks.geometry (later_of came) < lone_left v.locks.geometry (on_by again stage) → LoneCame h of v w (on_by again stage) came
-  stepped came going went behind stands fewer =
+  stepped came going went behind none stands fewer =
       let quiet = went.quiet (commands.Recover of) nothing 0 (inr refl) in record {
         files = quiet.files;
         valid = quiet.valid;
         slots = went.slots;
         locks = went.locks;
         registered = behind (went.registered is.sees);
-        faults = quiet.acts.later;
+        event = went.event;
+        acts = quiet.acts;
+        keys = keys_kept v w (on_by again stage) (later_of came) went.counter none;
         stands = stands;
         fewer = fewer;
       }
@@ -105,7 +112,7 @@ module _ (v w : WorldView) (h of : ℕ) (again : Bool) (stage : Replay) (is : Is
 
   pub more_came : (next : Replay) → Went h of v w stage (goings.More next) → LoneCame h of v w (on_by again stage) (More (on_by again next))
   more_came next went =
-      stepped (More (on_by again next)) (goings.More next) went (λ here. here)
+      stepped (More (on_by again next)) (goings.More next) went (λ here. here) (none_left again next)
       (on_at w h of again next (record { lone = lone (goings.More next) went; stands = went.stands; sees = went.sees is.sees }))
       (rw (on_left w.locks.geometry again next, on_left v.locks.geometry again stage)
       (subst (λ (g : Geometry). steps_left g next + claims_left g again < steps_left v.locks.geometry stage + claims_left v.locks.geometry again)
@@ -113,7 +120,7 @@ module _ (v w : WorldView) (h of : ℕ) (again : Bool) (stage : Replay) (is : Is
 
   pub ready_came : (dead : Key) → Went h of v w stage (goings.Ready dead) → LoneCame h of v w (on_by again stage) (More (lones.Last dead))
   ready_came dead went =
-      stepped (More (lones.Last dead)) (goings.Ready dead) went (λ here. here) (lone (goings.Ready dead) went, went.stands) last_near
+      stepped (More (lones.Last dead)) (goings.Ready dead) went (λ here. here) refl (lone (goings.Ready dead) went, went.stands) last_near
 
   -- a claim found another slot: the device tells nothing
   module _ (from found : Slot) (went : Went h of v w stage (goings.Found from found)) where
@@ -121,14 +128,14 @@ module _ (v w : WorldView) (h of : ℕ) (again : Bool) (stage : Replay) (is : Is
     untold = (went.sees is.sees).1
 
     busy : LoneCame h of v w (on_by again stage) (End (ends.Busy (has_key found)))
-    busy = stepped (End (ends.Busy (has_key found))) (goings.Found from found) went (λ here. here) untold end_nearer
+    busy = stepped (End (ends.Busy (has_key found))) (goings.Found from found) went (λ here. here) refl untold end_nearer
 
     free_now : IsSlotFree w of
     free_now = subst (λ (o : Option Told). IfSome o (λ t. slot_state_at w.locks.geometry t.image of ≡ 0)) (sym untold) tt
 
     enters : (of ≡ h) → LoneCame h of v w (on_by again stage) (More lones.EnterAgain)
     enters own =
-        stepped (More lones.EnterAgain) (goings.Found from found) went (λ here. here) (
+        stepped (More lones.EnterAgain) (goings.Found from found) went (λ here. here) refl (
           own,
           subst (λ y. IsEntering w y) own (record {
             base = subst (λ y. IsRecoverer w y of) (sym own) went.stands.base;
@@ -138,11 +145,11 @@ module _ (v w : WorldView) (h of : ℕ) (again : Bool) (stage : Replay) (is : Is
         ) last_near
 
     frees : (of ≢ h) → LoneCame h of v w (on_by again stage) (End ends.Free)
-    frees other = stepped (End ends.Free) (goings.Found from found) went (λ here. here) ((lone (goings.Found from found) went).ready other, free_now) end_nearer
+    frees other = stepped (End ends.Free) (goings.Found from found) went (λ here. here) refl ((lone (goings.Found from found) went).ready other, free_now) end_nearer
 
     claims : again ≡ false → IsSameLive from found → LoneCame h of v w (on_by again stage) (More (lones.Again (Claim found)))
     claims first same =
-        stepped (More (lones.Again (Claim found))) (goings.Found from found) went (λ here. here) (record {
+        stepped (More (lones.Again (Claim found))) (goings.Found from found) went (λ here. here) refl (record {
           lone = lone (goings.Found from found) went;
           stands = again_seen w h of from found went.stands same;
           sees = (went.sees is.sees).0;
@@ -203,29 +210,35 @@ module _ (v w : WorldView) (h of : ℕ) (dead : Key) (c : Consistent v.locks) (a
       → FreesSlot v.locks h of (Ok done) w.locks → IsFreed v.locks h of (Ok done) w.locks
       → LoneCame h of v w (lones.Last dead) (End ends.Recovered)
   freed_came done later others standing did is_freed =
-      let has = freed.has_freed v w h of dead.0 thrice c later recovers at.1 others standing done did is_freed in
-      let passes = has.passes in record {
-        files = passes.files;
-        valid = valid_now w later;
-        slots = elim did [
-          | inl cleared ↦ slots_written v w of (kinds.Slot of) (slot_bytes slots.Free) at.0.base.below
-              (λ y ne same. ne (let one : y ≡ of = cc in one)) cleared.acts.changes.1
-          | inr found ↦ slots_same v w of (ap (λ (s : State). s.told) found.1.0.acts.changes.2)
-        ];
-        locks = elim has.memory [
-          | inl free ↦ locks_by v w h (ap (λ (m : HostState). m.held) free) (ap (λ (m : HostState). m.reading) free)
-          | inr same ↦ locks_same v w h same.1
-        ];
-        registered = key_kept v w h passes.key has.keys has.registered;
-        faults = elim did [ inl cleared ↦ cleared.acts.later | inr found ↦ found.1.0.acts.later ];
-        stands = (
-          freed.free_ready v w h of dead.0 thrice c later recovers at.1 others standing done did is_freed,
-          subst (λ (g : Geometry). OnImage w.locks.disk.state (λ image. slot_state_at g image of ≡ 0)) (sym passes.geometry)
-              (map_told (told_of w.locks) _ _ (freed.freed_now v w h of dead.0 thrice c later recovers at.1 others standing done did is_freed)
-              (λ t image. image.slot)),
-        );
-        fewer = omega arith;
-      }
+      elim did [ inl cleared ↦ made _ cleared.acts tt | inr found ↦ made _ found.1.0.acts tt ]
+    where
+      made : (e : Event) → Acts e v.locks.disk w.locks.disk → AsksNoKey e.call → LoneCame h of v w (lones.Last dead) (End ends.Recovered)
+      made e acts none =
+          let has = freed.has_freed v w h of dead.0 thrice c later recovers at.1 others standing done did is_freed in
+          let passes = has.passes in record {
+            files = passes.files;
+            valid = valid_now w later;
+            slots = elim did [
+              | inl cleared ↦ slots_written v w of (kinds.Slot of) (slot_bytes slots.Free) at.0.base.below
+                  (λ y ne same. ne (let one : y ≡ of = cc in one)) cleared.acts.changes.1
+              | inr found ↦ slots_same v w of (ap (λ (s : State). s.told) found.1.0.acts.changes.2)
+            ];
+            locks = elim has.memory [
+              | inl free ↦ locks_by v w h (ap (λ (m : HostState). m.held) free) (ap (λ (m : HostState). m.reading) free)
+              | inr same ↦ locks_same v w h same.1
+            ];
+            registered = key_kept v w h passes.key has.keys has.registered;
+            event = e;
+            acts = acts;
+            keys = keys_kept v w (lones.Last dead) lones.Ended (counter_kept e v.locks.disk w.locks.disk acts none) refl;
+            stands = (
+              freed.free_ready v w h of dead.0 thrice c later recovers at.1 others standing done did is_freed,
+              subst (λ (g : Geometry). OnImage w.locks.disk.state (λ image. slot_state_at g image of ≡ 0)) (sym passes.geometry)
+                  (map_told (told_of w.locks) _ _ (freed.freed_now v w h of dead.0 thrice c later recovers at.1 others standing done did is_freed)
+                  (λ t image. image.slot)),
+            );
+            fewer = omega arith;
+          }
 
 -- the own slot is entered from the claim
 pub retakes : (v : WorldView) (h : ℕ) (dead : Key) → LoneAt v h h (lones.Last dead) → PlanStands v h nothing (doings.Retake dead)

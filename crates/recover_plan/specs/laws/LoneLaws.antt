@@ -1,5 +1,5 @@
 -- The first steps of the plans of a lone host: a key is asked for, the own slot is entered, and the slot of another host is read.
-use Rattle.std.proofs.Common.{◌≡◌, ◌≢◌, ◌+◌, ◌*◌, ◌%◌, ◌<◌, ◌^◌, ◌∙◌, ℕ, [], Bool, true, false, Option, refl, ap, sym, subst, arith}
+use Rattle.std.proofs.Common.{◌≡◌, ◌≢◌, ◌+◌, ◌*◌, ◌%◌, ◌<◌, ◌≤◌, ◌^◌, ◌∙◌, ℕ, [], Bool, true, false, Option, refl, ap, sym, subst, arith}
 use Rattle.std.specs.Prelude.{Contains, Err, Ok}
 use Rattle.vol_base.specs.declared.block.Key.{Key}
 use Rattle.vol_layout.specs.declared.geometry.Geometry.{Geometry}
@@ -18,7 +18,7 @@ use Rattle.lock_store.specs.declared.host.HostState.{HostState}
 use Rattle.lock_store.specs.Calls.{RegistersHost}
 use Rattle.lock_store.specs.Memories.{claim_of, key_of}
 use Rattle.lock_store.specs.SlotTries.{ReadsSlot}
-use Rattle.lock_store.specs.Views.{host_at, key_at, keys_of, told_of}
+use Rattle.lock_store.specs.Views.{counter_of, host_at, key_at, keys_of, told_of}
 use Rattle.disk_locks.specs.Calls.{EntersSlot, key}
 use Rattle.disk_locks.specs.Consistent.{Consistent}
 use Rattle.disk_locks.specs.Others as locks'
@@ -39,7 +39,7 @@ use Rattle.plan_parts.specs.laws.QuietCallLaws.{valid_now}
 use Rattle.host_runs.specs.Notes.{Notes}
 use Rattle.vol_base.specs.declared.command.Command.{Command}
 use Rattle.recover_plan.specs.LoneSteps.{IsRefused, IsSlotFree, LoneCame, LoneStepped}
-use Rattle.recover_plan.specs.Lones.{IsOnWay, LoneAt, entry_by, found_other, found_own, lone_left}
+use Rattle.recover_plan.specs.Lones.{IsOnWay, LoneAt, entry_by, found_other, found_own, keys_left, lone_left}
 use Rattle.recover_plan.specs.Plans.{PlanStands}
 use Rattle.recover_plan.specs.Replaying.{IsRecoverer}
 use Rattle.recover_plan.specs.Replays.{IsThere, SlotsStay}
@@ -58,7 +58,7 @@ use Rattle.recover_plan.specs.laws.SlotEndings.{taken_key}
 use Rattle.recover_plan.specs.laws.StageLaws.{base_on}
 use Rattle.recover_plan.specs.laws.StepLaws.{locks_else, ready_key, ready_same, there_on, slots_same, slots_written}
 use Rattle.recover_plan.specs.Replays.{IsShut}
-use Rattle.recover_plan.specs.laws.StepLaws.{key_kept, key_looked, locks_by, locks_same}
+use Rattle.recover_plan.specs.laws.StepLaws.{counter_kept, key_kept, key_looked, locks_by, locks_same}
 use Rattle.lock_store.specs.declared.answers.StepNo.TheVariants as steps
 use Rattle.shared_disk.specs.Calls.{after_register, next_key}
 use Rattle.std.specs.Prelude.{List, ◌++◌, ◌∷◌}
@@ -87,6 +87,11 @@ free_there w h of here there =
 given_key : (keys : List ℕ) (key : ℕ) → Contains (keys ++ key ∷ []) key
 given_key keys key = Contains-append_right keys (key ∷ []) key (0, omega arith, refl)
 
+-- a step that asks for no key leaves none to ask for
+pub keys_kept : (v w : WorldView) (stage later : Lone) → counter_of w.locks ≡ counter_of v.locks → keys_left later ≡ 0
+    → counter_of w.locks + keys_left later ≤ counter_of v.locks + keys_left stage
+keys_kept v w stage later same none = omega (arith, same, none)
+
 -- a key was asked for
 module _ (v w : WorldView) (h of : ℕ) (c : Consistent v.locks) (later : Consistent w.locks) (others : locks'.Others h v.locks w.locks)
     (standing : w.standing ≡ v.standing) (at : LoneAt v h of lones.Register) where
@@ -104,7 +109,9 @@ module _ (v w : WorldView) (h of : ℕ) (c : Consistent v.locks) (later : Consis
         (subst (λ (s : State). Contains s.keys key.0) (sym did.acts.changes.1)
         (subst (λ k. Contains (after_register h v.locks.disk.state).keys k) (sym did.acts.changes.0)
         (given_key v.locks.disk.state.keys (next_key h v.locks.disk.state))));
-    faults = did.acts.later;
+    event = _;
+    acts = did.acts;
+    keys = let e = ap (λ (s : State). s.counter) did.acts.changes.1 in omega (arith, e);
     stands = (at.0, entering v w h nothing key c later others standing did registers);
     fewer = subst (λ (g : Geometry). 2 * locks_of g + 42 < 2 * locks_of v.locks.geometry + 43) (sym did.geometry) (omega arith);
   }
@@ -117,7 +124,9 @@ module _ (v w : WorldView) (h of : ℕ) (c : Consistent v.locks) (later : Consis
         slots = slots_same v w of (ap (λ (s : State). s.told) state);
         locks = locks_same v w h did.mine;
         registered = tt;
-        faults = did.acts.later;
+        event = _;
+        acts = did.acts;
+        keys = let e = ap (λ (s : State). s.counter) state in omega (arith, e);
         stands = (did.mine ∙ at.2, ap (λ (s : State). s.counter) state ∙ did.acts.no_keys.0 refl);
         fewer = omega arith;
       }
@@ -149,7 +158,9 @@ entered_came v w h of from own stage c later others standing base spelled is_key
           (λ y ne same. ne (let one : y ≡ h = cc in one)) did.acts.changes.1);
       locks = locks_by v w h (ap (λ (m : HostState). m.held) did.mine) (ap (λ (m : HostState). m.reading) did.mine);
       registered = key_kept v w h (ap key_of did.mine) joins.keys joins.registered;
-      faults = did.acts.later;
+      event = _;
+      acts = did.acts;
+      keys = keys_kept v w stage lones.Ended (counter_kept _ _ _ did.acts tt) refl;
       stands = (
         entries.joined_ready v w h nothing from own c later others standing base spelled is_key empty did,
         is_key ∙ sym (ap key_of did.mine),
@@ -194,7 +205,9 @@ module _ (v u : WorldView) (h of : ℕ) (found : Slot) (c : Consistent v.locks) 
         slots = slots_same v u of (ap (λ (s : State). s.told) did.0.acts.changes.2);
         locks = locks_same v u h seen.looks.memory;
         registered = key_looked v u h seen.looks;
-        faults = did.0.acts.later;
+        event = _;
+        acts = did.0.acts;
+        keys = keys_kept v u lones.Enter (lones.First (Fence found)) (counter_kept _ _ _ did.0.acts tt) refl;
         stands = subst (λ y. IsOnWay u h y (Fence found)) (sym at.0) on;
         fewer = subst (λ (g : Geometry). locks_of g + 21 + locks_of g + 20 < 2 * locks_of v.locks.geometry + 42) (sym did.0.geometry)
             (omega arith);
@@ -208,7 +221,9 @@ module _ (v u : WorldView) (h of : ℕ) (found : Slot) (c : Consistent v.locks) 
         slots = slots_same v u of told;
         locks = locks_same v u h did.0.mine;
         registered = key_kept v u h (ap key_of did.0.mine) (ap (λ (s : State). s.keys) did.0.acts.changes.2) did.0.acts.admitted;
-        faults = did.0.acts.later;
+        event = _;
+        acts = did.0.acts;
+        keys = keys_kept v u lones.EnterAgain lones.Ended (counter_kept _ _ _ did.0.acts tt) refl;
         stands = told ∙ at.2;
         fewer = omega arith;
       }
@@ -290,7 +305,9 @@ module _ (v : WorldView) (h of : ℕ) (c : Consistent v.locks) (at : LoneAt v h 
         slots = slots_same v w of (ap (λ (s : State). s.told) looks.state);
         locks = locks_same v w h looks.memory;
         registered = key_looked v w h looks;
-        faults = did.0.acts.later;
+        event = _;
+        acts = did.0.acts;
+        keys = keys_kept v w lones.Find (lones.First (Fence slot)) (counter_kept _ _ _ did.0.acts tt) refl;
         stands = on taken;
         fewer = subst (λ (g : Geometry). locks_of g + 21 + locks_of g + 20 < 2 * locks_of v.locks.geometry + 42) (sym looks.geometry)
             (omega arith);
@@ -306,7 +323,9 @@ module _ (v : WorldView) (h of : ℕ) (c : Consistent v.locks) (at : LoneAt v h 
             slots = slots_same v w of (ap (λ (s : State). s.told) looks.state);
             locks = locks_same v w h looks.memory;
             registered = key_looked v w h looks;
-            faults = did.0.acts.later;
+            event = _;
+            acts = did.0.acts;
+            keys = keys_kept v w lones.Find lones.Ended (counter_kept _ _ _ did.0.acts tt) refl;
             stands = (ready, free_there w h of registered (subst (λ (s : Slot). IsThere w h of s) is there));
             fewer = omega arith;
           }
@@ -324,7 +343,9 @@ goes_came v w h of dead next end is = record {
   slots = is.slots;
   locks = is.locks;
   registered = is.registered;
-  faults = is.faults;
+  event = is.event;
+  acts = is.acts;
+  keys = is.keys;
   stands = is.stands;
   fewer = let less = is.fewer in omega (arith, less);
 }

@@ -75,7 +75,7 @@ use Rattle.recover_plan.specs.laws.NoteLaws.{IsOf, claimed_noting, claimed_sees}
 use Rattle.recover_plan.specs.laws.StepLaws.{slots_same, slots_written}
 use Rattle.recover_plan.specs.laws.StageLaws.{claim_on, ready_on, ready_still, replaying_on}
 use Rattle.lock_store.specs.Calls.{AnyBlock}
-use Rattle.recover_plan.specs.laws.StepLaws.{key_kept, key_looked, locks_same, shut_out}
+use Rattle.recover_plan.specs.laws.StepLaws.{counter_kept, key_kept, key_looked, locks_same, shut_out}
 
 module _ (v w : WorldView) (h of : ℕ) (dead : Key) (is : Consistent v.locks) (others : Others h v w) where
   -- a read and a write test nothing
@@ -139,6 +139,7 @@ module _ (v w : WorldView) (h of : ℕ) (dead : Key) (is : Consistent v.locks) (
         unshown = λ taken none. absurd (claimed_some v h of dead.0 claim none);
         no_entry = λ old key swaps. no_read (kinds.Journal of) _ old _ swaps;
         key = ap key_of looks.memory;
+        counter = counter_kept _ _ _ did.0.acts tt;
         given = λ x. looks.facts (Given x);
         tables = λ t p. looks.facts (TableIs t p);
         slots = slots_same v w of (ap (λ (s : State). s.told) looks.state);
@@ -196,6 +197,7 @@ module _ (v w : WorldView) (h of : ℕ) (dead : Key) (is : Consistent v.locks) (
         unshown = λ taken none. absurd (claimed_some v h of dead.0 replaying.claimed none);
         no_entry = λ old key swaps. no_read (kinds.Table which) _ old _ swaps;
         key = ap key_of looks.memory;
+        counter = counter_kept _ _ _ did.0.acts tt;
         given = λ x. looks.facts (Given x);
         tables = λ t p. looks.facts (TableIs t p);
         slots = slots_same v w of (ap (λ (s : State). s.told) looks.state);
@@ -336,6 +338,7 @@ module _ (v w : WorldView) (h of : ℕ) (dead : Key) (is : Consistent v.locks) (
         unshown = λ taken none. absurd (claimed_some v h of dead.0 replaying.claimed none);
         no_entry = λ old key swaps. no_write (kinds.Table which) _ old _ swaps;
         key = ap key_of wrote.memory;
+        counter = counter_kept _ _ _ did.acts tt;
         given = λ x. wrote.facts (Given x) tt;
         tables = tables;
         slots = slots_written v w of (kinds.Table which) (packed_bytes 4 kept) has (λ y ne is. cc) did.acts.changes;
@@ -365,6 +368,7 @@ module _ (v w : WorldView) (h of : ℕ) (dead : Key) (is : Consistent v.locks) (
     unshown = λ taken none. absurd (claimed_some v h of dead.0 all.claimed none);
     no_entry = λ old key swaps. no_write (kinds.Journal of) _ old _ swaps;
     key = ap key_of wrote.memory;
+    counter = counter_kept _ _ _ did.acts tt;
     given = λ x. wrote.facts (Given x) tt;
     tables = λ t p. wrote.facts (TableIs t p) (λ e. cc);
     slots = slots_written v w of (kinds.Journal of) (journal_bytes 0 []) all.claimed.base.below (λ y ne is. cc) did.acts.changes;

@@ -12,7 +12,7 @@ use Rattle.vol_layout.specs.declared.geometry.Geometry.{Geometry}
 use Rattle.vol_layout.specs.declared.kind.Resource.{Resource}
 use Rattle.vol_layout.specs.Ranges.{HasResource}
 use Rattle.journal_block.specs.JournalRecord.{JournalRecord}
-use Rattle.shared_disk.specs.Events.{Call, Event, Reply, Refuses, event}
+use Rattle.shared_disk.specs.Events.{Acts, Call, Changes, Done, Event, Reply, Refuses, Shows, event}
 use Rattle.shared_disk.specs.Seen.{DiskSeen}
 use Rattle.shared_disk.specs.declared.answers.DiskNo.TheVariants as refusals
 use Rattle.image_view.specs.Valid.{IsValid}
@@ -285,3 +285,22 @@ pub shut_out : (v w : WorldView) (h : ℕ) (call : Call) (place : ℕ) (Fits : L
     → IsRefusal v.locks h call place Fits why w.locks → IsShut v h why
 shut_out v w h call place Fits steps.Fenced refused is here = not_shut (key_at v.locks h) call v.locks.disk.state here (refused.acts.fenced.0 refl)
 shut_out v w h call place Fits why refused is here = cc
+
+-- a call that asks for no key
+abbrev pub AsksNoKey : Call → Type 0
+AsksNoKey (Registers of) = ⊥
+AsksNoKey call = Unit {0}
+
+counter_by : (call : Call) (reply : Reply) (s t : State) → AsksNoKey call → Changes call reply s t → t.counter ≡ s.counter
+counter_by (Registers of) reply s t none h = absurd none
+counter_by call (Refuses cause) s t none h = ap (λ (u : State). u.counter) h
+counter_by (Reads place) (Shows block) s t none h = ap (λ (u : State). u.counter) h.1
+counter_by (Writes place block) Done s t none h = ap (λ (u : State). u.counter) h
+counter_by (Tests place old new) Done s t none h = ap (λ (u : State). u.counter) h.1
+counter_by (Tests place old new) (Shows block) s t none h = ap (λ (u : State). u.counter) h.2
+counter_by (Fences target) Done s t none h = ap (λ (u : State). u.counter) h
+counter_by call reply s t none h = absurd h
+
+-- gives none
+pub counter_kept : (e : Event) (old new : DiskSeen) → Acts e old new → AsksNoKey e.call → new.state.counter ≡ old.state.counter
+counter_kept e old new acts none = counter_by e.call e.reply old.state new.state none acts.changes

@@ -66,7 +66,7 @@ use Rattle.recover_plan.specs.laws.StepLaws.{locks_else, slots_same, slots_writt
 use Rattle.recover_plan.specs.laws.NoteLaws.{IsOf, claimed_noting, frees, no_try, claimed_sees}
 use Rattle.recover_plan.specs.laws.ClaimLaws.{claimed_some, claims_slot}
 use Rattle.recover_plan.specs.laws.StageLaws.{ready_still, swept_on}
-use Rattle.recover_plan.specs.laws.StepLaws.{key_kept, locks_same, shut_out}
+use Rattle.recover_plan.specs.laws.StepLaws.{counter_kept, key_kept, locks_same, shut_out}
 
 -- no standing record edits what the dead key holds, once its own journal is empty
 pub swept_unedited : (v : WorldView) (h of dead k : ℕ) (r : Resource) → Consistent v.locks → IsSwept v h of dead k
@@ -190,6 +190,7 @@ module _ (v w : WorldView) (h of : ℕ) (dead : Key) (k : ℕ) (r : Resource) (i
           unshown = λ taken none. absurd (claimed_some v h of dead.0 swept.claimed none);
           no_entry = λ old key swaps. no_swap reply old _ swaps;
           key = ap key_of cleared.memory;
+          counter = counter_kept _ _ _ call.acts tt;
           given = λ x. cleared.facts (Given x);
           tables = λ t p. cleared.facts (TableIs t p);
           slots = slots;

@@ -1,15 +1,18 @@
 -- A host that is alone, over its own reads, and where a step was refused.
-use Rattle.std.proofs.Common.{◌≡◌, ◌≢◌, ◌<◌, ℕ, [], true, ap, sym, subst, ◌∙◌, arith, None, Some}
+use Rattle.std.proofs.Common.{◌≡◌, ◌≢◌, ◌<◌, ℕ, [], true, refl, ap, sym, subst, ◌∙◌, arith, None, Option, Some}
 use Rattle.std.specs.Prelude.{Contains}
 use Rattle.vol_base.specs.declared.command.Command.TheVariants.{Merge}
 use Rattle.vol_layout.specs.declared.geometry.Geometry.{Geometry}
 use Rattle.vol_layout.specs.declared.kind.Resource.TheVariants.{File}
+use Rattle.call_effects.specs.Places.{KeepsFiles}
 use Rattle.disk_locks.specs.Consistent.{Consistent}
+use Rattle.disk_locks.specs.Sure.{BothTold}
 use Rattle.host_facts.specs.Facts.Fact.{RecordIs}
 use Rattle.host_facts.specs.Looks.{Looks}
 use Rattle.host_facts.specs.Views.{WorldView}
 use Rattle.host_facts.specs.laws.FactLaws.{joined_key}
 use Rattle.host_notes.specs.Remembered.{IsRemembered}
+use Rattle.host_runs.specs.DeviceCalls.{OnImage}
 use Rattle.host_runs.specs.Memories.{Memory}
 use Rattle.host_runs.specs.Notes.{Notes, at_rest}
 use Rattle.lock_store.specs.declared.answers.StepNo.{StepNo}
@@ -21,11 +24,12 @@ use Rattle.plan_parts.specs.Cuts.{CutCall, IsCut}
 use Rattle.plan_parts.specs.Steps.{IsReady}
 use Rattle.plan_parts.specs.laws.TakenLaws.{taking_same}
 use Rattle.shared_disk.specs.Events.{Event}
-use Rattle.shared_disk.specs.State.{State}
+use Rattle.shared_disk.specs.State.{State, Told}
+use Rattle.image_view.specs.HostKeys.{slot_state_at}
 use Rattle.watch.specs.Looks.{nothing}
 use Rattle.file_plans.specs.Bases.{IsCached}
 use Rattle.held_cache.specs.Kept.{Cache, ForgetsHost, IsFileTable}
-use Rattle.solo.specs.Alone.{IsAlone, IsNotable, LeavesDevice, KeepsNothing}
+use Rattle.solo.specs.Alone.{AreFree, IsAlone, IsNotable, LeavesDevice, KeepsNothing}
 use Rattle.solo.specs.Stops.{IsCause, IsCutOff}
 use Rattle.solo.specs.laws.OwnCalls.{count_one, merge_open}
 
@@ -55,6 +59,13 @@ notable_looks v w h looks notable = (
       (subst (IsRemembered v.locks.geometry notable.0) (sym looks.memory) notable.1),
 )
 
+pub free_looks : (v w : WorldView) → Looks 0 v w → AreFree v v.locks.geometry.hosts → AreFree w w.locks.geometry.hosts
+free_looks v w looks free =
+    subst (λ (g : Geometry). OnImage w.locks.disk.state (λ image. (y : ℕ) → y ≢ 0 → y < g.hosts → y < g.hosts → slot_state_at g image y ≡ 0))
+    (sym looks.geometry)
+    (subst (λ (s : State). OnImage s (λ image. (y : ℕ) → y ≢ 0 → y < v.locks.geometry.hosts → y < v.locks.geometry.hosts
+    → slot_state_at v.locks.geometry image y ≡ 0)) (sym looks.state) free)
+
 pub alone_looks : (v w : WorldView) → Looks 0 v w → IsAlone v → IsAlone w
 alone_looks v w looks alone = record {
   ready = ready_looks v w 0 looks alone.ready;
@@ -63,6 +74,7 @@ alone_looks v w looks alone = record {
   files = λ f below.
       ap (λ (m : HostState). holds m (File f)) looks.memory
       ∙ alone.files f (subst (λ (g : Geometry). f < g.files) looks.geometry below);
+  free = free_looks v w looks alone.free;
   notes = notable_looks v w 0 looks alone.notes;
 }
 
@@ -73,6 +85,17 @@ untouched_then u v w first last = record {
   geometry = last.geometry ∙ first.geometry;
   later = let a = first.later in let b = last.later in omega (arith, a, b);
 }
+
+-- where no file changes, a device tells its content before and behind, or at neither time
+pub none_before : (told now : Option Told) → BothTold told now KeepsFiles → now ≡ None → told ≡ None
+none_before None now stay none = refl
+none_before (Some t) None stay none = absurd stay
+none_before (Some t) (Some u) stay none = let bad : Some u ≡ None = none in absurd cc
+
+pub none_behind : (told now : Option Told) → BothTold told now KeepsFiles → told ≡ None → now ≡ None
+none_behind None None stay none = refl
+none_behind None (Some u) stay none = absurd stay
+none_behind (Some t) now stay none = let bad : Some t ≡ None = none in absurd cc
 
 -- a step that was refused has its cause
 module _ (v w : WorldView) (h : ℕ) (is : Consistent v.locks) (joined : (host_at v.locks h).joined ≡ true) (notable : IsNotable v h)

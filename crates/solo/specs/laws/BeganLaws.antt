@@ -1,7 +1,5 @@
 -- What holds of a host since it began.
-use Rattle.std.proofs.Common.{◌≡◌, ◌≤◌, ℕ, None, Option, Some, ap, arith, refl, subst, sym, ◌∙◌}
-use Rattle.call_effects.specs.Places.{KeepsFiles}
-use Rattle.disk_locks.specs.Sure.{BothTold}
+use Rattle.std.proofs.Common.{◌≤◌, ℕ, Some, ap, arith, sym, ◌∙◌}
 use Rattle.held_cache.specs.Kept.{Cache}
 use Rattle.host_facts.specs.Views.{WorldView}
 use Rattle.host_facts.specs.Wrote.{FilesStay}
@@ -9,7 +7,7 @@ use Rattle.lock_store.specs.Views.{told_of}
 use Rattle.lock_store.specs.declared.answers.StepNo.{StepNo}
 use Rattle.lock_store.specs.declared.answers.StepNo.TheVariants as steps
 use Rattle.shared_disk.specs.Seen.{DiskSeen}
-use Rattle.shared_disk.specs.State.{State, Told}
+use Rattle.shared_disk.specs.State.{State}
 use Rattle.share_plans.specs.declared.sharing.Place.{Place}
 use Rattle.solo.specs.Alone.{LeavesDevice}
 use Rattle.solo.specs.Shares.{HasStopped}
@@ -17,6 +15,7 @@ use Rattle.solo.specs.Stops.{HasCause, IsCause, refusal_of}
 use Rattle.solo.specs.Views.{IsInOrder, IsSince}
 use Rattle.settle.specs.declared.lone.LoneNo.{LoneNo}
 use Rattle.settle.specs.declared.lone.LoneNo.TheVariants as refusals
+use Rattle.solo.specs.laws.AloneLaws.{none_before}
 use Rattle.solo.specs.laws.OwnCalls.{risen}
 
 pub later_here : (d : DiskSeen) → IsSince d d
@@ -27,14 +26,10 @@ later_then a b c first last =
     record { faults = let x = first.faults in let y = last.faults in omega (arith, x, y); tells = λ none. first.tells (last.tells none) }
 
 -- where no file changed, a device that tells nothing told nothing before
-none_before : (told : Option Told) → BothTold told None KeepsFiles → told ≡ None
-none_before None stay = refl
-none_before (Some t) stay = absurd stay
-
 pub later_files : (v w : WorldView) → v.locks.disk.faults ≤ w.locks.disk.faults → FilesStay v w → IsSince v.locks.disk w.locks.disk
 later_files v w faults stay = record {
   faults = faults;
-  tells = λ none. none_before (told_of v.locks) (subst (λ (o : Option Told). BothTold (told_of v.locks) o KeepsFiles) none stay);
+  tells = λ none. none_before (told_of v.locks) (told_of w.locks) stay none;
 }
 
 pub later_same : (v w : WorldView) → LeavesDevice v w → IsSince v.locks.disk w.locks.disk
@@ -45,7 +40,7 @@ pub refusal_since : (began old new : DiskSeen) (why : LoneNo) → IsSince began 
 refusal_since began old new refusals.Failed later cause = risen began.faults old.faults new.faults later.faults cause
 refusal_since began old new refusals.Full later cause = cause
 refusal_since began old new (refusals.Bad place) later cause = later.tells cause
-refusal_since began old new (refusals.Busy key) later cause = tt
+refusal_since began old new (refusals.Busy key) later cause = later.tells cause
 refusal_since began old new refusals.NoKeys later cause = cause
 refusal_since began old new refusals.NoMemory later cause = tt
 
@@ -68,4 +63,4 @@ cause_of v w steps.NoMemory cause = tt
 pub refused_since : (began : DiskSeen) (v w : WorldView) (c : Cache) (f i : ℕ) (source : Place) (why : StepNo) → IsSince began v.locks.disk
     → HasStopped v w f i source why → IsInOrder w c began (Some (refusal_of why))
 refused_since began v w c f i source why later stopped =
-    stopped_since began v w c (refusal_of why) later (later_files v w stopped.later stopped.files) (cause_of v w why stopped.cause)
+    stopped_since began v w c (refusal_of why) later (later_files v w stopped.later.faults stopped.later.files) (cause_of v w why stopped.cause)

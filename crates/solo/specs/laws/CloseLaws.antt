@@ -16,10 +16,13 @@ use Rattle.plan_parts.specs.laws.QuietCallLaws.{valid_now}
 use Rattle.recover_plan.specs.KeptVolumes.{KeepsVolume}
 use Rattle.recover_plan.specs.LoneSteps.{IsSlotFree}
 use Rattle.shared_disk.specs.Seen.{DiskSeen}
+use Rattle.settle.specs.Passes.{GoesOn}
+use Rattle.solo.specs.Alone.{IsLater}
 use Rattle.solo.specs.Stops.{HasCause}
-use Rattle.solo.specs.Views.{IsSince, SoloView, told, volume}
+use Rattle.solo.specs.Views.{IsSince, SoloView, state_of, told, volume}
 use Rattle.settle.specs.declared.lone.LoneNo.{LoneNo}
 use Rattle.solo.specs.laws.BeganLaws.{refusal_since}
+use Rattle.solo.specs.laws.LaterLaws.{goes_later}
 
 module _ (s : SoloView) (v w : WorldView) (d : DiskSeen) (same : v ≡ s.world) (disk : w.locks.disk ≡ d) where
   pub closed_files : FilesStay v w → BothTold (told s) d.state.told KeepsFiles
@@ -33,6 +36,12 @@ module _ (s : SoloView) (v w : WorldView) (d : DiskSeen) (same : v ≡ s.world) 
       subst (λ (x : DiskSeen). IfSome x.state.told (λ t. IsValid (volume s) x.state.counter t.image)) disk
       (subst (λ (g : Geometry). IfSome (told_of w.locks) (λ t. IsValid g (counter_of w.locks) t.image))
       (geometry ∙ ap (λ (x : WorldView). x.locks.geometry) same) (valid_now w is))
+
+  pub closed_goes : IsLater 0 v w → GoesOn (state_of s).counter d.state.counter (told s) d.state.told
+  closed_goes later =
+      subst (λ (x : DiskSeen). GoesOn (state_of s).counter x.state.counter (told s) x.state.told) disk
+      (subst (λ (x : WorldView). GoesOn (counter_of x.locks) (counter_of w.locks) (told_of x.locks) (told_of w.locks)) same
+      (goes_later v w later))
 
   pub closed_volume : (r : Result Unit LoneNo) → OnOk r (KeepsVolume v w)
       → OnOk r (BothTold (told s) d.state.told (Changes (volume s) [] None))
@@ -61,11 +70,10 @@ closed_since began v w d (Ok done) later disk cause = tt
 closed_since began v w d (Err no') later disk cause =
     subst (λ (x : DiskSeen). HasCause began x no') disk (refusal_since began v.locks.disk w.locks.disk no' later cause)
 
-pub closed_later : (began : DiskSeen) (v w : WorldView) (d : DiskSeen) (r : Result Unit LoneNo) → IsSince began v.locks.disk → w.locks.disk ≡ d
-    → OnOk r (v.locks.disk.faults ≤ w.locks.disk.faults) → OnOk r (began.faults ≤ d.faults)
-closed_later began v w d (Ok done) later disk faults =
+pub closed_later : (began : DiskSeen) (v w : WorldView) (d : DiskSeen) → IsSince began v.locks.disk → w.locks.disk ≡ d
+    → v.locks.disk.faults ≤ w.locks.disk.faults → began.faults ≤ d.faults
+closed_later began v w d later disk faults =
     subst (λ (x : DiskSeen). began.faults ≤ x.faults) disk (let first = later.faults in omega (arith, first, faults))
-closed_later began v w d (Err no') later disk faults = tt
 
 -- a host that was stopped hands its device back as it is
 pub closed_still : (s : SoloView) (v : WorldView) (d : DiskSeen) → v ≡ s.world → v.locks.disk ≡ d → BothTold (told s) d.state.told KeepsFiles

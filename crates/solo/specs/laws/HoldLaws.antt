@@ -9,8 +9,7 @@ use Rattle.vol_layout.specs.declared.kind.Resource.TheVariants.{File}
 use Rattle.vol_layout.specs.Ranges.{HasResource}
 use Rattle.shared_disk.specs.Events.{Event}
 use Rattle.shared_disk.specs.State.{State, Told}
-use Rattle.image_view.specs.HostKeys.{slot_state_at}
-use Rattle.image_view.specs.Images.{Image, block_at}
+use Rattle.image_view.specs.Images.{block_at}
 use Rattle.lock_store.specs.declared.answers.StepNo.{StepNo}
 use Rattle.lock_store.specs.declared.answers.StepNo.TheVariants as steps
 use Rattle.lock_store.specs.declared.host.HostState.{HostState}
@@ -19,13 +18,9 @@ use Rattle.lock_store.specs.Memories.{key_of}
 use Rattle.lock_store.specs.Views.{counter_of, host_at, key_at, keys_of, told_of}
 use Rattle.disk_locks.specs.Calls.{IsShared}
 use Rattle.disk_locks.specs.Consistent.{Consistent}
-use Rattle.disk_locks.specs.Sure.{BothTold}
 use Rattle.host_facts.specs.Facts.Fact.{RecordIs}
-use Rattle.host_facts.specs.Finds.{Finds}
 use Rattle.host_facts.specs.Looks.{Looks}
 use Rattle.host_facts.specs.Views.{WorldView}
-use Rattle.host_facts.specs.laws.FindsLaws as finding
-use Rattle.host_facts.specs.laws.FoundLaws.{joined_found}
 use Rattle.host_facts.specs.laws.ToldLaws.{all_told, join_told, map_told}
 use Rattle.host_notes.specs.Allowed.{IsAllowed}
 use Rattle.host_notes.specs.Remembered.{IsRemembered}
@@ -41,15 +36,16 @@ use Rattle.plan_parts.specs.laws.TurnLaws.{own_turn}
 use Rattle.plan_parts.specs.declared.outcome.Outcome.TheVariants.{Busy, Open}
 use Rattle.plan_parts.specs.declared.take_write.TakeWrite.{TakeWrite}
 use Rattle.plan_parts.specs.declared.take_write.TakeWrite.TheVariants as writes
-use Rattle.recover_plan.specs.Replays.{SlotsStay}
 use Rattle.recover_plan.specs.laws.StepLaws.{none_told}
-use Rattle.solo.specs.Alone.{IsAlone}
-use Rattle.solo.specs.Starts.{AreFree, FindsWord, HasStartCause, IsLater, IsTaking, IsTrying}
+use Rattle.solo.specs.Alone.{AreFree, IsAlone, IsLater}
+use Rattle.solo.specs.Starts.{FindsWord, HasStartCause, IsTaking, IsTrying}
 use Rattle.solo.specs.Stops.{refusal_of}
-use Rattle.solo.specs.laws.AloneLaws.{alone_key, notable_looks, ready_looks, resting_notes}
+use Rattle.solo.specs.laws.AloneLaws.{alone_key, free_looks, none_before, notable_looks, ready_looks, resting_notes}
 use Rattle.solo.specs.laws.OwnCalls.{call_moment, event_key, not_fenced, risen}
-use Rattle.solo.specs.laws.StartLaws.{later_same, later_then, none_before, state_kept}
-use Rattle.solo.specs.laws.TakeLaws.{IsAloneIn, StandsIn, no_show, slots_kept, stands_in, still_found, taker}
+use Rattle.solo.specs.laws.LaterLaws.{later_same, later_step, later_then, made_counter}
+use Rattle.solo.specs.laws.KeylessLaws.{IsAloneIn, StandsIn, told_alone}
+use Rattle.solo.specs.laws.KeylessLaws as keyless
+use Rattle.solo.specs.laws.TakeLaws.{no_show, still_found, taker}
 
 -- notes with which a step agrees
 abbrev pub notes_at : Memory → TakeWrite → Notes
@@ -85,25 +81,6 @@ notes_agree v f t memory is = (
   },
 )
 
--- free slots stay free
-free_kept : (u w : WorldView) → w.locks.geometry ≡ u.locks.geometry → SlotsStay u w 0 → AreFree u u.locks.geometry.hosts
-    → AreFree w w.locks.geometry.hosts
-free_kept u w same stay free = go (told_of u.locks) (told_of w.locks) w.locks.geometry same stay free
-  where
-    go : (old new : Option Told) (g : Geometry) → g ≡ u.locks.geometry
-        → BothTold old new (λ i j. (y : ℕ) → y < u.locks.geometry.hosts → y ≢ 0
-        → block_at u.locks.geometry j (kinds.Slot y) ≡ block_at u.locks.geometry i (kinds.Slot y))
-        → IfSome old (λ t. (y : ℕ) → y ≢ 0 → y < u.locks.geometry.hosts → y < u.locks.geometry.hosts
-        → slot_state_at u.locks.geometry t.image y ≡ 0)
-        → IfSome new (λ t. (y : ℕ) → y ≢ 0 → y < g.hosts → y < g.hosts → slot_state_at g t.image y ≡ 0)
-    go None None g is stay free = tt
-    go None (Some t) g is stay free = absurd stay
-    go (Some s) None g is stay free = tt
-    go (Some s) (Some t) g is stay free = λ y other below small.
-        let near = subst (λ (x : Geometry). y < x.hosts) is small in
-        subst (λ (x : Geometry). slot_state_at x t.image y ≡ 0) (sym is)
-        (state_kept u.locks.geometry s.image t.image y (stay y near other) ∙ free y other near near)
-
 -- one call of a step
 module _ (u w : WorldView) (f : ℕ) (t : TakeWrite) (here : Consistent u.locks) (taking : IsTaking u f) (found : FindsWord u f t)
     (After : Notes → Type 0) (e : Event) (quiet : QuietCall (taker f) 0 u w e (NotedWrite (taker f) 0 u t) After) where
@@ -125,11 +102,15 @@ module _ (u w : WorldView) (f : ℕ) (t : TakeWrite) (here : Consistent u.locks)
   own : e.key ≡ key_at u.locks 0
   own = event_key (taker f) 0 u w e None n tt taking.notes.1 some allowed.made quiet.acts
 
-  slots : SlotsStay u w 0
-  slots = slots_kept u w f m refl refl refl e.key e.call e.reply allowed.made allowed.marks quiet.acts.changes
-
+  -- the slots of other hosts stay free
   pub free_on : AreFree w w.locks.geometry.hosts
-  free_on = free_kept u w quiet.geometry slots taking.free
+  free_on = keyless.free_on (taker f) tt u w e n taking.free quiet.acts allowed quiet.geometry
+
+  -- no key is asked for
+  pub counter_on : counter_of w.locks ≤ counter_of u.locks + 0
+  counter_on =
+      let same : counter_of w.locks ≡ counter_of u.locks = made_counter m e u.locks.disk w.locks.disk tt allowed.made quiet.acts in
+      omega (arith, same)
 
   pub after : After (with_call u.locks.geometry 0 (taker f) u.locks.disk.state (Some e) n)
   after = quiet.noted n (notes_agree u f t memory taking.notes.1)
@@ -137,28 +118,12 @@ module _ (u w : WorldView) (f : ℕ) (t : TakeWrite) (here : Consistent u.locks)
   abbrev shows : Tries
   shows = tried_by u.locks.geometry 0 (taker f) memory.claims (key_at u.locks 0) e.call e.reply (write_tries t None)
 
-  alone_in : (image : Image) → Finds u.locks 0 image
-      → ((y : ℕ) → y ≢ 0 → y < u.locks.geometry.hosts → y < u.locks.geometry.hosts → slot_state_at u.locks.geometry image y ≡ 0)
-      → IsAloneIn u.locks.geometry (counter_of u.locks) (key_at u.locks 0) image
-  alone_in image finds free = record {
-    valid = finds.agrees.valid;
-    mine = joined_found u.locks 0 image finds taking.inside.ready.joined;
-    free = λ y other below. free y other below below;
-  }
-
   -- where the device tells its image, no key of another host is shown
-  told_alone : IfSome (told_of u.locks) (λ x. IsAloneIn u.locks.geometry (counter_of u.locks) (key_at u.locks 0) x.image)
-  told_alone = join_told (told_of u.locks) _ _ _ (finding.found u.locks 0 here taking.inside.registered) taking.free
-      (λ x finds free. alone_in x.image finds free)
-
-  told_shows : IfSome (told_of u.locks) (λ x. StandsIn x.image e.call e.reply)
-  told_shows = stands_in u.locks.disk.state w.locks.disk.state e.call e.reply quiet.acts.changes
-
   abbrev Both : Told → Type 0
   Both x = IsAloneIn u.locks.geometry (counter_of u.locks) (key_at u.locks 0) x.image × StandsIn x.image e.call e.reply
 
   both : IfSome (told_of u.locks) Both
-  both = join_told (told_of u.locks) _ _ Both told_alone told_shows (λ x a b. (a, b))
+  both = told_alone (taker f) tt u w e n taking.free quiet.acts here taking.inside.ready.joined taking.inside.registered
 
   pub told_hidden : IfSome (told_of u.locks) (λ x. shows.shown ≡ None)
   told_hidden = join_told (told_of u.locks) Both _ _ both found
@@ -187,7 +152,7 @@ outside v f below taking = record {
 }
 
 pub trying_first : (v : WorldView) (f : ℕ) (t : TakeWrite) → Consistent v.locks → f < v.locks.geometry.files → IsTaking v f → t ≡ first_write v 0 f
-    → IsLater v v → IsTrying v v f t
+    → IsLater 0 v v → IsTrying v v f t
 trying_first v f t is below taking first later = subst (IsTrying v v f) (sym first) (record {
   taking = taking;
   later = later;
@@ -203,22 +168,19 @@ taking_looks u w f looks taking = record {
         (subst (λ (s : State). Contains s.keys (key_at u.locks 0)) (sym looks.state) looks.registered);
   };
   notes = notable_looks u w 0 looks taking.notes;
-  free = subst (λ (g : Geometry). IfSome (told_of w.locks) (λ t. (y : ℕ) → y ≢ 0 → y < g.hosts → y < g.hosts → slot_state_at g t.image y ≡ 0))
-      (sym looks.geometry)
-      (subst (λ (s : State). IfSome s.told (λ t. (y : ℕ) → y ≢ 0 → y < u.locks.geometry.hosts → y < u.locks.geometry.hosts
-      → slot_state_at u.locks.geometry t.image y ≡ 0)) (sym looks.state) taking.free);
+  free = free_looks u w looks taking.free;
   held = λ e below. ap (λ (m : HostState). host.holds m (File e)) looks.memory ∙ taking.held e below;
   out = λ e from below. ap (λ (m : HostState). host.holds m (File e)) looks.memory
       ∙ taking.out e from (subst (λ (g : Geometry). e < g.files) looks.geometry below);
 }
 
-later_looks : (u w : WorldView) → Looks 0 u w → u.locks.disk.faults ≤ w.locks.disk.faults → IsLater u w
-later_looks u w looks faults = later_same u w looks.state looks.geometry faults
+later_looks : (u w : WorldView) → Looks 0 u w → u.locks.disk.faults ≤ w.locks.disk.faults → IsLater 0 u w
+later_looks u w looks faults = later_same 0 u w looks.state looks.geometry faults
 
 one_file : (e f : ℕ) → File e ≡ File f → e ≡ f
 one_file e f is = cc
 
-module _ (v u w : WorldView) (f : ℕ) (t : TakeWrite) (first : Consistent v.locks) (here : Consistent u.locks) (trying : IsTrying v u f t) where
+module _ (v u w : WorldView) (f : ℕ) (t : TakeWrite) (here : Consistent u.locks) (trying : IsTrying v u f t) where
   -- the next try
   pub trying_on : (next : TakeWrite)
       → HasMore (WritesFile f) 0 u w (λ c. NotedWrite c 0 u t) (λ c. NotedWrite c 0 w next) (IsWriteTaking w 0 f next) → IsTrying v w f next
@@ -230,7 +192,7 @@ module _ (v u w : WorldView) (f : ℕ) (t : TakeWrite) (first : Consistent v.loc
       (λ (x : Tries). x ≡ write_tries next reader) noted.tries_are in
       record {
         taking = taking_looks u w f more.looks trying.taking;
-        later = later_then v u w first here trying.later (later_looks u w more.looks quiet.acts.later);
+        later = later_then 0 0 v u w trying.later (later_looks u w more.looks quiet.acts.later);
         at = more.stands;
         found = subst (λ (g : Geometry). IfSome (told_of w.locks) (λ x. (word : List ℕ) → (write_tries next None).found ≡ Some word
             → block_at g x.image (kinds.Lock (File f)) ≡ word)) (sym more.looks.geometry)
@@ -277,17 +239,19 @@ module _ (v u w : WorldView) (f : ℕ) (t : TakeWrite) (first : Consistent v.loc
             ∙ trying.taking.out e (omega (arith, from)) near;
       }
 
-  pub taken_later : HasWrite 0 f u w t → IsLater v w
+  pub taken_later : HasWrite 0 f u w t → IsLater 0 v w
   taken_later wrote =
       let quiet = wrote.asked.quiet (taker f) (refl, refl) in
-      later_then v u w first here trying.later (record { files = quiet.files; geometry = quiet.geometry; faults = quiet.acts.later })
+      let e = wrote.asked.event in
+      later_then 0 0 v u w trying.later (later_step 0 u w e quiet.acts quiet.geometry quiet.files quiet.valid
+      (counter_on u w f t here trying.taking trying.found (Noted (taker f) 0 w Open) e quiet))
 
   -- a key of another host was shown: the device tells nothing
   module _ (key : Key) (busy : HasBusy (WritesFile f) 0 u w (λ c. NotedWrite c 0 u t) key) where
-    pub busy_later : IsLater v w
+    pub busy_later : IsLater 0 v w
     busy_later =
         let quiet = busy.asked.quiet (taker f) (refl, refl) in
-        later_then v u w first here trying.later (later_looks u w busy.looks quiet.acts.later)
+        later_then 0 0 v u w trying.later (later_looks u w busy.looks quiet.acts.later)
 
     pub busy_untold : told_of v.locks ≡ None
     busy_untold =
@@ -320,8 +284,8 @@ module _ (v u w : WorldView) (f : ℕ) (t : TakeWrite) (first : Consistent v.loc
         (cut_call.1.allowed (call_moment (taker f) 0 u w e None notes) turn refl (notes_agree u f t trying.taking.notes.0 trying.taking.notes.1)).made
         cut_call.1.acts trying.taking.inside.registered (subst (λ (no' : StepNo). IsCauseOf no' e u) fenced cut_call.1.cause)
 
-    pub cut_later : IsLater v w
-    cut_later = later_then v u w first here trying.later (later_same u w cut_call.1.state cut_call.1.geometry cut_call.1.acts.later)
+    pub cut_later : IsLater 0 v w
+    cut_later = later_then 0 0 v u w trying.later (later_same 0 u w cut_call.1.state cut_call.1.geometry cut_call.1.acts.later)
 
     cause_of : (no' : StepNo) → why ≡ no' → IsCauseOf no' cut_call.0 u → HasStartCause v.locks.disk w.locks.disk (refusal_of no')
     cause_of steps.Fenced is cause = absurd (cut_open is)
@@ -339,5 +303,6 @@ taken_all w taking = record {
   ready = taking.inside.ready;
   registered = taking.inside.registered;
   files = λ f below. taking.held f below;
+  free = taking.free;
   notes = taking.notes;
 }

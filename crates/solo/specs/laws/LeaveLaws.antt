@@ -17,13 +17,13 @@ use Rattle.call_effects.specs.Places.{KeepsFiles, Places}
 use Rattle.disk_locks.specs.Consistent.{Consistent}
 use Rattle.disk_locks.specs.Sure.{BothTold}
 use Rattle.host_facts.specs.Views.{WorldView}
-use Rattle.host_facts.specs.Wrote.{FilesStay}
+use Rattle.host_facts.specs.Wrote.{FilesStay, HasValidImage}
 use Rattle.host_facts.specs.laws.ToldLaws.{both_same}
 use Rattle.host_notes.specs.Owes.{Owes}
 use Rattle.host_notes.specs.Remembered.{IsRemembered}
 use Rattle.host_runs.specs.DeviceCalls.{ActsOnce}
 use Rattle.host_runs.specs.Notes.{Notes}
-use Rattle.lock_store.specs.Views.{host_at, key_at, keys_of, told_of}
+use Rattle.lock_store.specs.Views.{counter_of, host_at, key_at, keys_of, told_of}
 use Rattle.plan_parts.specs.Cuts.{IsUntouched}
 use Rattle.plan_parts.specs.Steps.{OwesStep, ended_of}
 use Rattle.recover_plan.specs.KeptVolumes.{IsLeave, KeepsVolume}
@@ -39,7 +39,7 @@ use Rattle.recover_plan.specs.laws.FirstLaws.{first_noted, first_stands}
 use Rattle.recover_plan.specs.laws.RegisterLaws.{nothing_watched}
 use Rattle.shared_disk.specs.Events.{Event}
 use Rattle.shared_disk.specs.Seen.{DiskSeen}
-use Rattle.shared_disk.specs.State.{OnImages, State, Told}
+use Rattle.shared_disk.specs.State.{OnImages, Told}
 use Rattle.watch.specs.declared.watch.Look.{Look}
 use Rattle.watch.specs.Looks.{nothing}
 use Rattle.std.proofs.Common.{false, inl}
@@ -51,16 +51,18 @@ use Rattle.host_runs.specs.DeviceCalls.{IsRefused, OnImage}
 use Rattle.image_view.specs.HostKeys.{slot_state_at}
 use Rattle.shared_disk.specs.declared.answers.DiskNo.TheVariants as refusals
 use Rattle.recover_plan.specs.Nexts.{first_of}
-use Rattle.shared_disk.specs.State.{State}
 use Rattle.solo.specs.Leaves.{IsLeft, left_by}
 use Rattle.solo.specs.Stops.{HasCause}
-use Rattle.solo.specs.laws.AloneLaws.{alone_below, alone_key, resting_notes}
+use Rattle.solo.specs.laws.AloneLaws.{alone_below, alone_key, none_before, resting_notes}
 use Rattle.solo.specs.laws.OwnCalls.{not_fenced, risen}
-use Rattle.solo.specs.Alone.{IsAlone}
+use Rattle.solo.specs.Alone.{IsAlone, IsLater}
 use Rattle.solo.specs.Leaves.{IsLeaving, IsLeft, left_by}
 use Rattle.solo.specs.laws.OwnCalls.{key_same, keys_stay, not_fenced, risen}
 use Rattle.solo.specs.laws.ComesLaws.{changes_then}
-use Rattle.solo.specs.laws.ShareLaws.{files_then}
+use Rattle.solo.specs.laws.LaterLaws.{later_first, later_same, later_step, later_then, made_counter}
+use Rattle.solo.specs.laws.OwnCalls.{call_moment}
+use Rattle.host_runs.specs.CallRights.{MayCall}
+use Rattle.image_view.specs.Valid.{IsValid}
 
 -- a step of no plain call changes no file
 stays_of : (g : Geometry) (placed : Option PlainReply) (old new : Option Told) → OnImages (Places g None placed) old new
@@ -92,10 +94,18 @@ remembered_of v h watch doings.Unlock n is agrees = agrees.noted.remembered
 remembered_of v h watch doings.Fence n is agrees = agrees.noted.remembered
 remembered_of v h watch doing n is agrees = absurd cc
 
--- faults do not fall in a turn
-turn_later : (made : Option Event) (old new : DiskSeen) → ActsOnce made old new → old.faults ≤ new.faults
-turn_later None old new same = let faults = ap (λ (d : DiskSeen). d.faults) same in omega (arith, faults)
-turn_later (Some e) old new acts = acts.0.later
+-- a turn that keeps the files, and behind which the image is valid
+turn_later : (u w : WorldView) (h : ℕ) (placed : Option PlainReply) (n : Notes) (made : Option Event)
+    → ActsOnce made u.locks.disk w.locks.disk
+    → MayCall (plan_moment u.locks.geometry h Leave u.locks.disk w.locks.disk made placed n) made → w.locks.geometry ≡ u.locks.geometry
+    → FilesStay u w → HasValidImage w → IsLater 0 u w
+turn_later u w h placed n None same may geometry files valid =
+    later_same 0 u w (ap (λ (d : DiskSeen). d.state) same) geometry
+    (let faults = ap (λ (d : DiskSeen). d.faults) same in omega (arith, faults))
+turn_later u w h placed n (Some e) acts may geometry files valid =
+    let counter : counter_of w.locks ≡ counter_of u.locks =
+    made_counter (call_moment Leave h u w e placed n) e u.locks.disk w.locks.disk tt may acts.0 in
+    later_step 0 u w e acts.0 geometry files valid (omega (arith, counter))
 
 none_made : IsSome {T = Event} None → ⊥
 none_made is = cc
@@ -118,8 +128,8 @@ module _ (u w : WorldView) (h : ℕ) (placed : Option PlainReply) (n later : Not
       )
 
 -- one step
-module _ (v u w : WorldView) (h : ℕ) (watch after : List (Option Look)) (doing later : Doing) (step : Step) (first : Consistent v.locks)
-    (here : Consistent u.locks) (leaving : IsLeaving v u h watch doing) (stepped : HasStepped h u w watch after doing later step) where
+module _ (v u w : WorldView) (h : ℕ) (watch after : List (Option Look)) (doing later : Doing) (step : Step)
+    (leaving : IsLeaving v u h watch doing) (stepped : HasStepped h u w watch after doing later step) where
   is : IsRemembered u.locks.geometry leaving.noted.0.memory (host_at u.locks h)
   is = remembered_of u h watch doing leaving.noted.0 leaving.leaves leaving.noted.1
 
@@ -129,22 +139,17 @@ module _ (v u w : WorldView) (h : ℕ) (watch after : List (Option Look)) (doing
   owed : OwesStep Leave h u w step (Agrees h u watch doing) After
   owed = subst (λ (c : Command). OwesStep c h u w step (Agrees h u watch doing) (Behind h w after stepped.come)) leaving.leaves stepped.owes
 
-  geometry_on : w.locks.geometry ≡ v.locks.geometry
-  geometry_on = owed.others.locks.lasts.geometry ∙ leaving.geometry
-
-  later_on : v.locks.disk.faults ≤ w.locks.disk.faults
-  later_on =
-      let a = leaving.later in
-      let b = turn_later owed.made u.locks.disk w.locks.disk (owed.owes leaving.noted.0 leaving.noted.1).1.acts in omega (arith, a, b)
-
-  files_on : FilesStay v w
-  files_on =
-      files_then v u w first here leaving.files
-      (stays_of u.locks.geometry step.placed (told_of u.locks) (told_of w.locks) (owed.owes leaving.noted.0 leaving.noted.1).1.files)
+  pub steps_later : IsLater 0 v w
+  steps_later =
+      let same = owed.others.locks.lasts.geometry in
+      let owes = (owed.owes leaving.noted.0 leaving.noted.1).1 in
+      later_then 0 0 v u w leaving.later (turn_later u w h step.placed leaving.noted.0 owed.made owes.acts owes.may same
+      (stays_of u.locks.geometry step.placed (told_of u.locks) (told_of w.locks) owes.files)
+      (subst (λ (g : Geometry). OnImage w.locks.disk.state (IsValid g (counter_of w.locks))) (sym same) owes.valid))
 
   volume_on : ((by : CutBy) → step.next ≢ nexts.Answered (answers.Cut by)) → KeepsVolume v w
   volume_on uncut =
-      volume_then v u w leaving.geometry leaving.volume (stepped.volume (subst IsLeave (sym leaving.leaves) tt) uncut)
+      volume_then v u w leaving.later.geometry leaving.volume (stepped.volume (subst IsLeave (sym leaving.leaves) tt) uncut)
 
   -- it goes on
   module _ (more : step.next ≡ nexts.More) where
@@ -167,9 +172,7 @@ module _ (v u w : WorldView) (h : ℕ) (watch after : List (Option Look)) (doing
           some = subst (λ k. k ≢ 0) (sym keys.0) leaving.some;
           registered = subst (λ k. Contains (keys_of w.locks) k) (sym keys.0)
               (subst (λ (ks : List ℕ). Contains ks (key_at u.locks h)) (sym keys.1) leaving.registered);
-          geometry = geometry_on;
-          later = later_on;
-          files = files_on;
+          later = steps_later;
           volume = volume_on unanswered;
         })
     goes (comes.Answered answer) step_is later_is stands owes =
@@ -228,16 +231,12 @@ module _ (v u w : WorldView) (h : ℕ) (watch after : List (Option Look)) (doing
     pub left_answer : IsLeft answer
     left_answer = is_left answer ends.ending.cause ends.own
 
-    none_first : (told : Option Told) → BothTold told None KeepsFiles → told ≡ None
-    none_first None stay = refl
-    none_first (Some t) stay = absurd stay
-
     caused : (a : Answer) → IsLeft a → Caused a → IfErr (left_by a) (HasCause v.locks.disk w.locks.disk)
     caused answers.Fine left cause = tt
     caused (answers.Cut cuts.Fault) left cause =
-        risen v.locks.disk.faults u.locks.disk.faults w.locks.disk.faults leaving.later (failed owed.made ends cause)
+        risen v.locks.disk.faults u.locks.disk.faults w.locks.disk.faults leaving.later.faults (failed owed.made ends cause)
     caused (answers.Cut (cuts.Bad place)) left cause =
-        none_first (told_of v.locks) (subst (λ (o : Option Told). BothTold (told_of v.locks) o KeepsFiles) cause.0 leaving.files)
+        none_before (told_of v.locks) (told_of u.locks) leaving.later.files cause.0
     caused a left cause = absurd left
 
     pub left_cause : IfErr (left_by answer) (HasCause v.locks.disk w.locks.disk)
@@ -264,24 +263,11 @@ module _ (v u w : WorldView) (h : ℕ) (watch after : List (Option Look)) (doing
     pub left_free : OnOk (left_by answer) (IsSlotFree w h)
     left_free = freed answer left_answer refl
 
-  pub steps_later : v.locks.disk.faults ≤ w.locks.disk.faults
-  steps_later = later_on
-
-  pub steps_files : FilesStay v w
-  steps_files = files_on
-
-  pub steps_volume : w.locks.geometry ≡ v.locks.geometry
-  steps_volume = geometry_on
-
 -- a step for which there was no memory did nothing
-module _ (v u w : WorldView) (h : ℕ) (watch : List (Option Look)) (doing : Doing) (leaving : IsLeaving v u h watch doing)
-    (none : IsUntouched h u w) where
-  pub spent_files : FilesStay v w
-  spent_files =
-      subst (λ (o : Option Told). BothTold (told_of v.locks) o KeepsFiles) (sym (ap (λ (s : State). s.told) none.state)) leaving.files
-
-  pub spent_volume : w.locks.geometry ≡ v.locks.geometry
-  spent_volume = none.geometry ∙ leaving.geometry
+pub spent_later : (v u w : WorldView) (h : ℕ) (watch : List (Option Look)) (doing : Doing) → IsLeaving v u h watch doing → IsUntouched h u w
+    → u.locks.disk.faults ≤ w.locks.disk.faults → IsLater 0 v w
+spent_later v u w h watch doing leaving none faults =
+    later_then 0 0 v u w leaving.later (later_same 0 u w none.state none.geometry faults)
 
 -- before the first step
 pub leaving_first : (v : WorldView) (watch : List (Option Look)) (doing : Doing) → Consistent v.locks → IsAlone v → watch ≡ nothing
@@ -294,9 +280,7 @@ leaving_first v watch doing is alone none first =
       noted = (resting_notes alone.notes.0, first_noted v 0 nothing (resting_notes alone.notes.0) rests Leave tt);
       some = alone_key v 0 is alone.ready.joined;
       registered = alone.registered;
-      geometry = refl;
-      later = omega arith;
-      files = both_same (told_of v.locks) (told_of v.locks) KeepsFiles refl (λ image f. refl);
+      later = later_first 0 v;
       volume = both_same (told_of v.locks) (told_of v.locks) (Changes v.locks.geometry [] None) refl
           (λ image. record { super = refl; numbers = λ x has. refl; blocks = λ d has. refl });
     }))

@@ -9,6 +9,7 @@ use Rattle.shared_disk.specs.Events.{Acts, Call, Changes, Done, Event, Fences, I
 use Rattle.shared_disk.specs.State.{State}
 use Rattle.shared_disk.specs.declared.answers.DiskNo.TheVariants as refusals
 use Rattle.host_facts.specs.Views.{WorldView}
+use Rattle.host_notes.specs.Allowed.{IsAllowed}
 use Rattle.host_notes.specs.Owes.{plan_moment}
 use Rattle.host_notes.specs.Remembered.{IsRemembered}
 use Rattle.host_runs.specs.CallRights.{MayFence, MayMake}
@@ -23,7 +24,7 @@ use Rattle.slot_lock_blocks.specs.ReaderKeys.{key_number}
 use Rattle.std.specs.Prelude.{option_map}
 use Rattle.host_runs.specs.Notes.{Notes}
 use Rattle.host_runs.specs.lemmas.OrderlyPlaced.{some_same}
-use Rattle.lock_store.specs.Views.{host_at, key_at, keys_of}
+use Rattle.lock_store.specs.Views.{counter_of, host_at, key_at, keys_of}
 use Rattle.plan_parts.specs.QuietCalls.{Allows}
 use Rattle.plan_parts.specs.laws.TurnLaws.{own_turn}
 use Rattle.host_notes.specs.laws.NotedLaws.{key_noted}
@@ -32,6 +33,7 @@ use Rattle.watch.specs.declared.watch.Look.{Look}
 use Rattle.std.specs.Prelude.{Option}
 use Rattle.vol_base.specs.declared.plain.PlainReply.{PlainReply}
 use Rattle.solo.specs.Commands.{IsTame, MayNotJoin}
+use Rattle.solo.specs.laws.LaterLaws.{made_counter}
 
 no_fence : (command : Command) (h own target : ℕ) (watch : List (Option Look)) → IsTame command
     → MayFence command h own target watch → {A : Type 0} → A
@@ -135,20 +137,27 @@ module _ (command : Command) (h : ℕ) (v w : WorldView) (e : Event) (placed : O
 module _ (h : ℕ) (v w : WorldView) (e : Event) (n : Notes) (is : IsRemembered v.locks.geometry n.memory (host_at v.locks h))
     (some : key_at v.locks h ≢ 0) (Before : Notes → Type 0) (before : Before n) (allowed : Allows commands.Merge h v e Before)
     (acts : Acts e v.locks.disk w.locks.disk) where
-  pub merge_made : MayMake (call_moment commands.Merge h v w e None n) e.key e.call
-  merge_made = (allowed (call_moment commands.Merge h v w e None n) (own_turn commands.Merge h v w e n is some None refl) refl before).made
+  pub merge_allowed : IsAllowed (call_moment commands.Merge h v w e None n) e
+  merge_allowed = allowed (call_moment commands.Merge h v w e None n) (own_turn commands.Merge h v w e n is some None refl) refl before
+
+  pub merge_own : e.key ≡ key_at v.locks h
+  merge_own = event_key commands.Merge h v w e None n tt is some merge_allowed.made acts
 
   pub merge_keys : keys_of w.locks ≡ keys_of v.locks
   merge_keys =
-      keys_stay commands.Merge h v w e None n tt is some merge_made acts
-      (no_fence_made commands.Merge h v w e None n tt is some merge_made acts tt)
+      keys_stay commands.Merge h v w e None n tt is some merge_allowed.made acts
+      (no_fence_made commands.Merge h v w e None n tt is some merge_allowed.made acts tt)
+
+  -- nor does it ask for one
+  pub merge_counter : counter_of w.locks ≡ counter_of v.locks
+  merge_counter = made_counter (call_moment commands.Merge h v w e None n) e v.locks.disk w.locks.disk tt merge_allowed.made acts
 
   pub merge_key : IsRemembered w.locks.geometry (remembered v.locks.geometry h e n.memory) (host_at w.locks h)
       → key_at w.locks h ≡ key_at v.locks h
-  merge_key = key_same commands.Merge h v w e None n tt is some merge_made acts
+  merge_key = key_same commands.Merge h v w e None n tt is some merge_allowed.made acts
 
   pub merge_open : Contains (keys_of v.locks) (key_at v.locks h) → e.reply ≡ Refuses refusals.Fenced → ⊥
-  merge_open = not_fenced commands.Merge h v w e None n tt is some merge_made acts
+  merge_open = not_fenced commands.Merge h v w e None n tt is some merge_allowed.made acts
 
 -- a count rises by one at most
 pub count_one : (n m : ℕ) → m ≡ next_count n → m ≤ n + 1

@@ -1,5 +1,5 @@
 -- A volume that was settled by a host that came and left.
-use Rattle.std.proofs.Common.{◌≡◌, ◌∙◌, ℕ, [], None, Option, Some, Result, Ok, Err, sym, ap, subst}
+use Rattle.std.proofs.Common.{◌≡◌, ◌∙◌, ℕ, arith, [], None, Option, Some, Result, Ok, Err, sym, ap, subst}
 use Rattle.std.specs.Prelude.{IfErr, IfOk, IfSome, OnOk}
 use Rattle.vol_layout.specs.declared.geometry.Geometry.{Geometry}
 use Rattle.call_effects.specs.Changes.{Changes}
@@ -10,19 +10,21 @@ use Rattle.image_view.specs.Settled.{IsSettled, IsSettledIn}
 use Rattle.image_view.specs.Valid.{IsValid, IsVolume}
 use Rattle.image_view.specs.laws.GeometryLaws.{IsVolume-valid, geometry_of-spelled}
 use Rattle.shared_disk.specs.Seen.{DiskSeen}
-use Rattle.shared_disk.specs.State.{OnImages, Told}
+use Rattle.shared_disk.specs.State.{OnImages, State, Told}
 use Rattle.settle.specs.Distinct.{HasContents}
 use Rattle.settle.specs.Moves.{Stays}
+use Rattle.settle.specs.Passes.{GoesOn, Passes}
 use Rattle.settle.specs.Sound.{IsSound}
 use Rattle.settle.specs.Stops.{IsRefused}
 use Rattle.settle.specs.Totals.{live_places}
 use Rattle.settle.specs.declared.lone.LoneNo.{LoneNo}
 use Rattle.settle.specs.declared.lone.LoneNo.TheVariants as refusals
 use Rattle.settle.specs.declared.settling.Settled.{Settled}
+use Rattle.settle.specs.laws.PassLaws.{passes_then}
 use Rattle.settle.specs.laws.SettledLaws.{contents_stay, heads_stay, held_stays, live_stays, settled_stays}
 use Rattle.settle.specs.laws.SoundLaws.{sound-valid}
-use Rattle.solo.specs.Settlings.{HasSettleCause, HasSettled, both_of}
-use Rattle.solo.specs.Starts.{HasStartCause}
+use Rattle.solo.specs.Settlings.{HasSettled, both_of}
+use Rattle.solo.specs.Starts.{HasStartCause, IsGiven}
 use Rattle.solo.specs.Stops.{HasCause}
 use Rattle.solo.specs.Views.{IsSince}
 use Rattle.solo.specs.laws.OwnCalls.{risen}
@@ -101,42 +103,47 @@ told_files (Some t) None c d x y z = absurd x
 told_files None None (Some v) d x y z = absurd y
 told_files (Some t) (Some u) None d x y z = absurd y
 
+-- on the whole way each image is a valid volume with the files of the first, and no more keys are given than the host's beginning took
+module _ (old begun last : State) (on : GoesOn begun.counter last.counter begun.told last.told) where
+  pub whole_passes : Passes old begun → Passes old last
+  whole_passes earlier =
+      passes_then old.counter begun.counter last.counter old.told begun.told last.told (let same = on.counter in omega (arith, same)) earlier
+      on.passes
+
+  pub whole_given : (n : ℕ) → IsGiven n old begun → IsGiven n old last
+  whole_given n given =
+      let same = on.counter in
+      let later = given.later in
+      let few = given.few in record { later = omega (arith, same, later); few = omega (arith, same, few) }
+
 -- the cause of a refusal, since the device was handed in
-pub cause_whole : (old began last : DiskSeen) (why : LoneNo) → IsSince old began → HasCause began last why → HasSettleCause old last why
+cause_whole : (old began last : DiskSeen) (why : LoneNo) → IsSince old began → HasCause began last why → HasStartCause old last why
 cause_whole old began last refusals.Failed later cause = risen old.faults began.faults last.faults later.faults cause
 cause_whole old began last refusals.Full later cause = cause
 cause_whole old began last (refusals.Bad place) later cause = later.tells cause
-cause_whole old began last (refusals.Busy key) later cause = tt
+cause_whole old began last (refusals.Busy key) later cause = later.tells cause
 cause_whole old began last refusals.NoKeys later cause = absurd cause
 cause_whole old began last refusals.NoMemory later cause = tt
-
-pub cause_at_start : (old new : DiskSeen) (why : LoneNo) → HasStartCause old new why → HasSettleCause old new why
-cause_at_start old new refusals.Failed cause = cause
-cause_at_start old new refusals.Full cause = cause
-cause_at_start old new (refusals.Bad place) cause = cause
-cause_at_start old new (refusals.Busy key) cause = tt
-cause_at_start old new refusals.NoKeys cause = cause
-cause_at_start old new refusals.NoMemory cause = tt
 
 -- what both answers come to
 module _ (settled : Result Settled LoneNo) (left : Result Unit LoneNo) where
   pub both_cause : (old began last : DiskSeen) (stopped : Option LoneNo) → IsSince old began → IfErr settled (IsRefused stopped)
-      → IfSome stopped (λ why. left ≡ Err why) → IfErr left (HasCause began last) → IfErr (both_of settled left) (HasSettleCause old last)
+      → IfSome stopped (λ why. left ≡ Err why) → IfErr left (HasCause began last) → IfErr (both_of settled left) (HasStartCause old last)
   both_cause old began last stopped later refused again cause = cases settled left refused again cause
     where
       hit : (l : Result Unit LoneNo) (why : LoneNo) → stopped ≡ Some why → IfSome stopped (λ no'. l ≡ Err no') → IfErr l (HasCause began last)
-          → HasSettleCause old last why
+          → HasStartCause old last why
       hit l why is again cause =
           let same : l ≡ Err why = subst (λ (o : Option LoneNo). IfSome o (λ no'. l ≡ Err no')) is again in
           cause_whole old began last why later (subst (λ (r : Result Unit LoneNo). IfErr r (HasCause began last)) same cause)
 
       cases : (s : Result Settled LoneNo) (l : Result Unit LoneNo) → IfErr s (IsRefused stopped) → IfSome stopped (λ why. l ≡ Err why)
-          → IfErr l (HasCause began last) → IfErr (both_of s l) (HasSettleCause old last)
+          → IfErr l (HasCause began last) → IfErr (both_of s l) (HasStartCause old last)
       cases (Ok counts) (Ok done) refused again cause = tt
       cases (Ok counts) (Err why) refused again cause = cause_whole old began last why later cause
       cases (Err refusals.Failed) l refused again cause = hit l refusals.Failed refused again cause
       cases (Err refusals.Full) l refused again cause = absurd refused
       cases (Err (refusals.Bad place)) l refused again cause = hit l (refusals.Bad place) refused again cause
-      cases (Err (refusals.Busy key)) l refused again cause = tt
+      cases (Err (refusals.Busy key)) l refused again cause = hit l (refusals.Busy key) refused again cause
       cases (Err refusals.NoKeys) l refused again cause = absurd refused
       cases (Err refusals.NoMemory) l refused again cause = tt

@@ -1,60 +1,59 @@
 -- The steps of a share, since its beginning.
-use Rattle.std.proofs.Common.{◌≡◌, ◌≤◌, ◌<◌, ◌+◌, ℕ, List, [], None, Option, Some, true, refl, ap, sym, subst, ◌∙◌, arith}
+use Rattle.std.proofs.Common.{◌≡◌, ◌≢◌, ◌≤◌, ◌<◌, ◌+◌, ◌^◌, ℕ, List, [], None, Option, Some, true, refl, ap, sym, subst, ◌∙◌, arith}
 use Rattle.std.specs.Prelude.{Contains, IfSome}
+use Rattle.vol_base.specs.declared.block.Key.{Key}
 use Rattle.vol_base.specs.declared.command.Command.TheVariants.{Merge}
 use Rattle.vol_layout.specs.declared.geometry.Geometry.{Geometry}
+use Rattle.vol_layout.specs.declared.kind.Table.TheVariants as tables
+use Rattle.vol_layout.specs.Fields.{HasField}
 use Rattle.vol_layout.specs.Ranges.{data_blocks}
+use Rattle.shared_disk.specs.Events.{Event}
+use Rattle.shared_disk.specs.State.{State, Told}
 use Rattle.call_effects.specs.Changes.{Changes}
-use Rattle.call_effects.specs.Places.{KeepsFiles}
 use Rattle.disk_locks.specs.Consistent.{Consistent}
 use Rattle.disk_locks.specs.Sure.{BothTold}
 use Rattle.host_facts.specs.Views.{WorldView}
-use Rattle.host_facts.specs.Wrote.{FilesStay}
-use Rattle.host_facts.specs.laws.ToldLaws.{both_same}
+use Rattle.host_facts.specs.laws.ToldLaws.{both_same, map_told}
+use Rattle.host_notes.specs.Allowed.{IsAllowed}
 use Rattle.host_notes.specs.Remembered.{IsRemembered}
+use Rattle.host_runs.specs.Memories.{Memory}
 use Rattle.host_runs.specs.Notes.{Notes, with_call}
+use Rattle.host_runs.specs.Tries.{tried_by}
 use Rattle.image_view.specs.Images.{Image}
 use Rattle.image_view.specs.Valid.{IsValid}
 use Rattle.lock_store.specs.declared.answers.StepNo.{StepNo}
 use Rattle.lock_store.specs.declared.answers.StepNo.TheVariants as steps
 use Rattle.lock_store.specs.Views.{counter_of, host_at, key_at, keys_of, told_of}
 use Rattle.plan_parts.specs.Cuts.{IsCut}
-use Rattle.plan_parts.specs.QuietCalls.{Noted, QuietCall}
+use Rattle.plan_parts.specs.QuietCalls.{Noted, QuietCall, shown_of}
+use Rattle.plan_parts.specs.Steps.{IsReady}
+use Rattle.plan_parts.specs.declared.outcome.Outcome.TheVariants.{Open}
 use Rattle.plan_parts.specs.laws.QuietCallLaws.{valid_now}
+use Rattle.recover_plan.specs.laws.StepLaws.{none_told}
 use Rattle.share_plans.specs.Causes.{HasAnswered, IsCause as IsAnswerCause}
 use Rattle.share_plans.specs.Closings.{KeepsHolds}
 use Rattle.share_plans.specs.Lefts.{left}
+use Rattle.share_plans.specs.Places.{field_of}
+use Rattle.share_plans.specs.Stands.{HasSource}
 use Rattle.share_plans.specs.Went.{MayShare, Went, answer_at, answer_of, outcome_by}
 use Rattle.share_plans.specs.declared.sharing.Place.{Place}
 use Rattle.share_plans.specs.declared.sharing.Place.TheVariants.{Arena, File}
 use Rattle.share_plans.specs.declared.sharing.Shared.{Shared}
+use Rattle.share_plans.specs.declared.sharing.Shared.TheVariants as answers
 use Rattle.share_plans.specs.declared.stage.Came.{Came}
 use Rattle.share_plans.specs.declared.stage.Came.TheVariants.{Answered, More}
 use Rattle.share_plans.specs.declared.stage.Core.{Core}
 use Rattle.share_plans.specs.declared.stage.Stage.{Stage}
 use Rattle.share_plans.specs.declared.stage.Stage.TheVariants as stages
 use Rattle.share_plans.specs.laws.ShareStays.{share_begins}
-use Rattle.shared_disk.specs.State.{State, Told}
-use Rattle.vol_layout.specs.declared.kind.Table.TheVariants as tables
-use Rattle.std.proofs.Common.{◌^◌}
-use Rattle.plan_parts.specs.Steps.{IsReady}
-use Rattle.plan_parts.specs.declared.outcome.Outcome.TheVariants.{Open}
-use Rattle.share_plans.specs.laws.ShareStays.{share_begins}
-use Rattle.share_plans.specs.Places.{field_of}
-use Rattle.share_plans.specs.Stands.{HasSource}
-use Rattle.vol_layout.specs.Fields.{HasField}
-use Rattle.vol_layout.specs.declared.kind.Table.TheVariants as tables
-use Rattle.host_runs.specs.Memories.{Memory}
-use Rattle.host_notes.specs.Remembered.{IsRemembered}
-use Rattle.host_facts.specs.laws.ToldLaws.{both_same}
-use Rattle.share_plans.specs.declared.sharing.Place.TheVariants.{Arena, File}
-use Rattle.solo.specs.laws.AloneLaws.{alone_below, resting_notes}
-use Rattle.solo.specs.Alone.{IsAlone}
-use Rattle.solo.specs.Shares.{Comes, Halts, HasBoth, HasCome, HasShared, HasStopped, IsKnown, IsOnWay, IsSharing}
+use Rattle.solo.specs.Alone.{IsAlone, IsLater}
+use Rattle.solo.specs.Shares.{Comes, Halts, HasBoth, HasCome, HasShared, HasStopped, IsKnown, IsOnWay, IsSharing, IsUnshown}
 use Rattle.solo.specs.Stops.{IsCause, IsCutOff}
-use Rattle.solo.specs.laws.AloneLaws.{alone_key, cut_off, resting_notes}
+use Rattle.solo.specs.laws.AloneLaws.{alone_below, alone_key, cut_off, none_before, none_behind, resting_notes}
 use Rattle.solo.specs.laws.ComesLaws.{changes_then, comes_at, comes_then, few_blocks, halts_of, left_some}
-use Rattle.solo.specs.laws.OwnCalls.{count_one, merge_key, merge_keys, risen}
+use Rattle.solo.specs.laws.KeylessLaws.{free_on, shows_none, told_alone}
+use Rattle.solo.specs.laws.LaterLaws.{later_first, later_same, later_step, later_then}
+use Rattle.solo.specs.laws.OwnCalls.{call_moment, count_one, merge_allowed, merge_counter, merge_key, merge_keys, merge_own, risen}
 
 -- relations of told images compose, where something holds of the first two
 pub both_then : (a b c : Option Told) (P Q : Image → Type 0) (R S T : Image → Image → Type 0) → IfSome a (λ t. P t.image)
@@ -65,12 +64,6 @@ both_then None (Some b) c P Q R S T p q r s f = absurd r
 both_then (Some a) None c P Q R S T p q r s f = absurd r
 both_then (Some a) (Some b) None P Q R S T p q r s f = s
 both_then (Some a) (Some b) (Some c) P Q R S T p q r s f = f a.image b.image c.image p q r s
-
-pub files_then : (v u w : WorldView) → Consistent v.locks → Consistent u.locks → FilesStay v u → FilesStay u w → FilesStay v w
-files_then v u w first last stay later =
-    both_then (told_of v.locks) (told_of u.locks) (told_of w.locks) (IsValid v.locks.geometry (counter_of v.locks))
-    (IsValid u.locks.geometry (counter_of u.locks)) KeepsFiles KeepsFiles KeepsFiles (valid_now v first) (valid_now u last) stay later
-    (λ i j k p q a b f. b f ∙ a f)
 
 pub keeps_then : (h : ℕ) (v u w : WorldView) → KeepsHolds h v u → KeepsHolds h u w → KeepsHolds h v w
 keeps_then h v u w first last = record {
@@ -134,38 +127,84 @@ module _ (v u w : WorldView) (f i : ℕ) (source : Place) (core : Core) (stage :
 merge_may : MayShare Merge
 merge_may = (refl, λ f i n is. cc)
 
+-- what is known behind a step that shows no key where none was shown before
+unshown_by : (u w : WorldView) (known after : Option Shared) → IsUnshown u known
+    → (shown_of (outcome_by known) ≡ None → IfSome (told_of u.locks) (λ t. shown_of (outcome_by after) ≡ None))
+    → (told_of u.locks ≡ None → told_of w.locks ≡ None) → IsUnshown w after
+unshown_by u w (Some (answers.Busy key)) (Some (answers.Busy other)) before hidden still = still before
+unshown_by u w known (Some (answers.Busy key)) before hidden still =
+    still (none_told (told_of u.locks) (map_told (told_of u.locks) _ _ (hidden refl) (λ t none. no_key key none)))
+  where
+    no_key : (key : Key) → Some key.0 ≡ None → ⊥
+    no_key key is = cc
+unshown_by u w known after before hidden still = tt
+
 -- a step of a share
-module _ (v u w : WorldView) (f i : ℕ) (source : Place) (core new : Core) (stage : Stage) (came : Came) (file : core.file ≡ f)
-    (index : core.index ≡ i) (from : core.source ≡ source) (first : Consistent v.locks) (here : Consistent u.locks)
-    (both : HasBoth v.locks.geometry f i source) (joined : (host_at u.locks core.host).joined ≡ true)
-    (sharing : IsSharing v u core.host f i source (answer_at stage)) (went : Went u w core new stage came) where
-  quiet : QuietCall Merge core.host u w went.event (Noted Merge core.host u (outcome_by (answer_at stage)))
-      (Noted Merge core.host w (outcome_by (answer_of came)))
-  quiet = went.quiet Merge merge_may
+module _ (v u w : WorldView) (f i : ℕ) (source : Place) (core new : Core) (stage : Stage) (came : Came) (host : core.host ≡ 0)
+    (file : core.file ≡ f) (index : core.index ≡ i) (from : core.source ≡ source) (first : Consistent v.locks) (here : Consistent u.locks)
+    (both : HasBoth v.locks.geometry f i source) (joined : (host_at u.locks 0).joined ≡ true)
+    (sharing : IsSharing v u 0 f i source (answer_at stage)) (went : Went u w core new stage came) where
+  abbrev e : Event
+  e = went.event
 
-  notes : Notes
-  notes = sharing.noted.0
+  abbrev NotedHere : Notes → Type 0
+  NotedHere = Noted Merge 0 u (outcome_by (answer_at stage))
 
-  now_noted : Noted Merge core.host w (outcome_by (answer_of came))
-      (with_call u.locks.geometry core.host Merge u.locks.disk.state (Some went.event) sharing.noted.0)
-  now_noted = quiet.noted sharing.noted.0 sharing.noted.1
+  quiet : QuietCall Merge 0 u w e NotedHere (Noted Merge 0 w (outcome_by (answer_of came)))
+  quiet =
+      subst (λ h. QuietCall Merge h u w e (Noted Merge h u (outcome_by (answer_at stage))) (Noted Merge h w (outcome_by (answer_of came)))) host
+      (went.quiet Merge merge_may)
 
-  registered_on : Contains (keys_of w.locks) (key_at w.locks core.host)
+  some : key_at u.locks 0 ≢ 0
+  some = alone_key u 0 here joined
+
+  abbrev n : Notes
+  n = sharing.noted.0
+
+  abbrev later : Notes
+  later = with_call u.locks.geometry 0 Merge u.locks.disk.state (Some e) n
+
+  now_noted : Noted Merge 0 w (outcome_by (answer_of came)) later
+  now_noted = quiet.noted n sharing.noted.1
+
+  allowed : IsAllowed (call_moment Merge 0 u w e None n) e
+  allowed = merge_allowed 0 u w e n sharing.noted.1.remembered some NotedHere sharing.noted.1 quiet.allowed quiet.acts
+
+  registered_on : Contains (keys_of w.locks) (key_at w.locks 0)
   registered_on =
-      let some = alone_key u core.host here joined in
-      let keys = merge_keys core.host u w went.event sharing.noted.0 sharing.noted.1.remembered some _ sharing.noted.1 quiet.allowed quiet.acts in
-      let key = merge_key core.host u w went.event sharing.noted.0 sharing.noted.1.remembered some _ sharing.noted.1 quiet.allowed quiet.acts
-      now_noted.remembered in
+      let keys = merge_keys 0 u w e n sharing.noted.1.remembered some NotedHere sharing.noted.1 quiet.allowed quiet.acts in
+      let key = merge_key 0 u w e n sharing.noted.1.remembered some NotedHere sharing.noted.1 quiet.allowed quiet.acts now_noted.remembered in
       subst (λ k. Contains (keys_of w.locks) k) (sym key)
-      (subst (λ (ks : List ℕ). Contains ks (key_at u.locks core.host)) (sym keys) sharing.registered)
+      (subst (λ (ks : List ℕ). Contains ks (key_at u.locks 0)) (sym keys) sharing.registered)
 
-  pub sharing_on : IsSharing v w core.host f i source (answer_of came)
+  later_on : IsLater 0 v w
+  later_on =
+      let counter = merge_counter 0 u w e n sharing.noted.1.remembered some NotedHere sharing.noted.1 quiet.allowed quiet.acts in
+      later_then 0 0 v u w sharing.later (later_step 0 u w e quiet.acts quiet.geometry quiet.files quiet.valid (omega (arith, counter)))
+
+  -- where the device tells its image, the call shows no key
+  hidden : n.tries.shown ≡ None → IfSome (told_of u.locks) (λ t. later.tries.shown ≡ None)
+  hidden none =
+      let own = merge_own 0 u w e n sharing.noted.1.remembered some NotedHere sharing.noted.1 quiet.allowed quiet.acts in
+      map_told (told_of u.locks) _ _ (told_alone Merge tt u w e n sharing.free quiet.acts here joined sharing.registered)
+      (λ t known. subst (λ k. (tried_by u.locks.geometry 0 Merge n.memory.claims k e.call e.reply n.tries).shown ≡ None) (sym own)
+      (shows_none u.locks.geometry (counter_of u.locks) (key_at u.locks 0) t.image known.0 0 (call_moment Merge 0 u w e None n) Merge tt
+      n.memory.claims n.tries none (λ f old new word k has marks at apart. none) e.key e.call e.reply refl allowed.marks known.1))
+
+  unshown_on : IsUnshown w (answer_of came)
+  unshown_on =
+      unshown_by u w (answer_at stage) (answer_of came) sharing.unshown
+      (λ none. map_told (told_of u.locks) _ _ (hidden (sharing.noted.1.shown_is ∙ none)) (λ t is. sym now_noted.shown_is ∙ is))
+      (none_behind (told_of u.locks) (told_of w.locks) quiet.files)
+
+  pub sharing_on : IsSharing v w 0 f i source (answer_of came)
   sharing_on = record {
-    keeps = keeps_then core.host v u w sharing.keeps went.keeps;
+    keeps = keeps_then 0 v u w sharing.keeps (subst (λ h. KeepsHolds h u w) host went.keeps);
     registered = registered_on;
-    later = let a = sharing.later in let b = quiet.acts.later in omega (arith, a, b);
-    files = files_then v u w first here sharing.files quiet.files;
-    noted = (with_call u.locks.geometry core.host Merge u.locks.disk.state (Some went.event) sharing.noted.0, now_noted);
+    later = later_on;
+    free = free_on Merge tt u w e n sharing.free quiet.acts allowed quiet.geometry;
+    unshown = unshown_on;
+    noted = (later, now_noted);
     changed = known_on v u w f i source core stage file index from first here sharing.keeps.geometry both (answer_at stage) (answer_of came)
         sharing.changed went.answers_are;
   }
@@ -173,28 +212,18 @@ module _ (v u w : WorldView) (f i : ℕ) (source : Place) (core new : Core) (sta
   pub one_more : w.locks.disk.calls ≤ u.locks.disk.calls + 1
   one_more = count_one u.locks.disk.calls w.locks.disk.calls quiet.acts.counted
 
--- the host is joined still
-on_joined : (v u : WorldView) (h f i : ℕ) (source : Place) (known : Option Shared) → (host_at v.locks h).joined ≡ true
-    → IsSharing v u h f i source known → (host_at u.locks h).joined ≡ true
-on_joined v u h f i source known joined sharing = sharing.keeps.joined ∙ joined
-
 module _ (v u w : WorldView) (f i : ℕ) (source : Place) (core new : Core) (stage : Stage) (first : Consistent v.locks) (here : Consistent u.locks)
     (alone : IsAlone v) (both : HasBoth v.locks.geometry f i source) (way : IsOnWay v u f i source core stage) where
   joined : (host_at u.locks 0).joined ≡ true
-  joined = on_joined v u 0 f i source (answer_at stage) alone.ready.joined way.sharing
+  joined = way.sharing.keeps.joined ∙ alone.ready.joined
 
   sharing_by : (came : Came) → Went u w core new stage came → IsSharing v w 0 f i source (answer_of came)
   sharing_by came went =
-      subst (λ h. IsSharing v w h f i source (answer_of came)) way.host
-      (sharing_on v u w f i source core new stage came way.file way.index way.from first here both
-      (subst (λ h. (host_at u.locks h).joined ≡ true) (sym way.host) joined)
-      (subst (λ h. IsSharing v u h f i source (answer_at stage)) (sym way.host) way.sharing) went)
+      sharing_on v u w f i source core new stage came way.host way.file way.index way.from first here both joined way.sharing went
 
   calls_by : (came : Came) → Went u w core new stage came → w.locks.disk.calls ≤ u.locks.disk.calls + 1
   calls_by came went =
-      one_more v u w f i source core new stage came way.file way.index way.from first here both
-      (subst (λ h. (host_at u.locks h).joined ≡ true) (sym way.host) joined)
-      (subst (λ h. IsSharing v u h f i source (answer_at stage)) (sym way.host) way.sharing) went
+      one_more v u w f i source core new stage came way.host way.file way.index way.from first here both joined way.sharing went
 
   -- the share goes on
   pub way_on : (after : Stage) → Went u w core new stage (More after) → IsOnWay v w f i source new after
@@ -218,11 +247,11 @@ module _ (v u w : WorldView) (f i : ℕ) (source : Place) (core new : Core) (sta
           files = λ k below.
               let was = subst (λ (x : Geometry). k < x.files) sharing.keeps.geometry below in
               sharing.keeps.held k was ∙ alone.files k was;
+          free = sharing.free;
           notes = (sharing.noted.0.memory, sharing.noted.1.remembered);
         };
         came = sharing.changed;
-        files = sharing.files;
-        geometry = sharing.keeps.geometry;
+        unshown = sharing.unshown;
         later = sharing.later;
       }
 
@@ -239,16 +268,11 @@ module _ (v u w : WorldView) (f i : ℕ) (source : Place) (core new : Core) (sta
   told_same : (why : StepNo) → IsCutOff u w why → told_of w.locks ≡ told_of u.locks
   told_same why cut = ap (λ (s : State). s.told) cut.untouched.state
 
-  none_first : (told : Option Told) → BothTold told None KeepsFiles → told ≡ None
-  none_first None stay = refl
-  none_first (Some t) stay = absurd stay
-
   cause_here : (why : StepNo) → IsCutOff u w why → IsCause v w why
   cause_here steps.Fenced cut = cut.cause
   cause_here steps.Failed cut =
-      risen v.locks.disk.faults u.locks.disk.faults w.locks.disk.faults way.sharing.later cut.cause
-  cause_here (steps.Bad place) cut =
-      none_first (told_of v.locks) (subst (λ (o : Option Told). BothTold (told_of v.locks) o KeepsFiles) cut.cause way.sharing.files)
+      risen v.locks.disk.faults u.locks.disk.faults w.locks.disk.faults way.sharing.later.faults cut.cause
+  cause_here (steps.Bad place) cut = none_before (told_of v.locks) (told_of u.locks) way.sharing.later.files cut.cause
   cause_here steps.NoMemory cut = tt
 
   pub way_cut : (why : StepNo) → IsCut core.host u w why → HasStopped v w f i source why
@@ -256,9 +280,7 @@ module _ (v u w : WorldView) (f i : ℕ) (source : Place) (core new : Core) (sta
       let off = cut_here why cut in record {
         halted = subst (λ (o : Option Told). BothTold (told_of v.locks) o (Halts v.locks.geometry f i source)) (sym (told_same why off))
             (halts_of v u f i source (answer_at stage) way.sharing.changed);
-        files = subst (λ (o : Option Told). BothTold (told_of v.locks) o KeepsFiles) (sym (told_same why off)) way.sharing.files;
-        geometry = off.untouched.geometry ∙ way.sharing.keeps.geometry;
-        later = let before = way.sharing.later in let here = off.untouched.later in omega (arith, before, here);
+        later = later_then 0 0 v u w way.sharing.later (later_same 0 u w off.untouched.state off.untouched.geometry off.untouched.later);
         cause = cause_here why off;
       }
 
@@ -307,8 +329,9 @@ way_first v f i source is alone both few = record {
   sharing = record {
     keeps = record { geometry = refl; joined = refl; held = λ k below. refl; read = λ k below. refl };
     registered = alone.registered;
-    later = omega arith;
-    files = both_same (told_of v.locks) (told_of v.locks) KeepsFiles refl (λ image k. refl);
+    later = later_first 0 v;
+    free = alone.free;
+    unshown = tt;
     noted = (resting_notes alone.notes.0, begun_noted v alone.notes.0 alone.notes.1);
     changed = both_same (told_of v.locks) (told_of v.locks) (Changes v.locks.geometry [] None) refl
         (λ image. record { super = refl; numbers = λ x has. refl; blocks = λ d has. refl });

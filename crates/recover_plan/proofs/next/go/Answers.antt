@@ -13,6 +13,9 @@ returns-in-Err-NoMemory-clause-none g c =
     (Agrees c.args.host c.args.world.now c.args.watch.now c.args.doing)
     (rw c.in-Err-NoMemory.field-0-is at c.in-Err-NoMemory.ensures.cut)
 
+pub returns-in-Err-NoMemory-clause-later : goal.returns-in-Err-NoMemory-clause-later
+returns-in-Err-NoMemory-clause-later g c = c.in-Err-NoMemory.ensures.cut.1.acts.later
+
 pub returns-in-Err-Fenced-clause-came : goal.returns-in-Err-Fenced-clause-came
 returns-in-Err-Fenced-clause-came g c =
     rw (c.cut.ensures.come, c.cut.ensures.watch)

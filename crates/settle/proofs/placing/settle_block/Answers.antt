@@ -4,6 +4,7 @@ use Rattle.settle.specs.Gathered.{spot_at}
 use Rattle.settle.specs.Reads.{IsSought}
 use Rattle.settle.specs.declared.seeking.Sought.{Sought}
 use Rattle.settle.proofs.PlaceLaws.{told-block-count, told-joined, told-next, told-placed-result, told-shown-hole, told-stays-join}
+use Rattle.settle.specs.laws.PassLaws.{goes_then}
 use Rattle.settle.proofs.placing.settle_block.Goals as goal
 
 pub settle_fresh-requires-clause-next : goal.settle_fresh-requires-clause-next
@@ -61,3 +62,6 @@ returns-in-Err-clause-count g c =
     told-block-count c.args.geometry (g.L.Lone.told c.args.lone.now) (spot_at c.args.found.now.spots) c.args.spot.file c.args.spot.index
     (g.L.Lone.answered c.args.lone.now) (g.L.Lone.answered c.seek.new.lone) (g.L.Lone.answered c.seek.new.lone) c.digest_of-digest.result c.args.block.now
     c.requires.table c.requires.next c.in-Err.ensures.count (omega arith)
+
+pub returns-in-Ok-Fresh-clause-on : goal.returns-in-Ok-Fresh-clause-on
+returns-in-Ok-Fresh-clause-on g c = goes_then _ _ _ _ _ _ c.in-Ok-Fresh.ensures.on c.settle_fresh.ensures.on

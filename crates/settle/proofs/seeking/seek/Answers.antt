@@ -5,6 +5,7 @@ use Rattle.settle.specs.Reads.{IsCompared}
 use Rattle.settle.specs.declared.comparing.Compared.{Compared}
 use Rattle.settle.proofs.PlaceLaws.{told-still}
 use Rattle.settle.proofs.SeekLaws.{passed-more, told-apart-more, told-apart-none, told-moves-join}
+use Rattle.settle.specs.laws.PassLaws.{goes_same, goes_then}
 use Rattle.settle.proofs.seeking.seek.Goals as goal
 
 pub loop-number-init : goal.loop-number-init
@@ -13,6 +14,7 @@ loop-number-init g c = record {
   apart = told-apart-none c.args.geometry (g.L.Lone.told c.args.lone.now) (spot_at c.args.found.now.spots) c.args.spot.file c.args.spot.index c.args.digest;
   passed = λ m below none. absurd (omega arith);
   volume = c.requires.volume;
+  on = goes_same _ _ _ _ refl refl;
   began = refl;
   count = omega arith;
 }
@@ -54,6 +56,16 @@ loop-number-preserved g c =
           c.in-Ok-Other.field-0-is c.in-Ok-Other.ensures.compared);
       passed = passed-more (spot_at c.args.found.now.spots) c.args.digest c.loop-number.number c.in-Some.source there c.loop-number.invariant.passed;
       volume = c.in-Ok-Other.ensures.volume;
+      on = goes_then _ _ _ _ _ _ c.loop-number.invariant.on c.in-Ok-Other.ensures.on;
       began = c.in-Ok-Other.ensures.began ∙ c.loop-number.invariant.began;
       count = let more = c.in-Ok-Other.ensures.count in let before = c.loop-number.invariant.count in omega arith;
     }
+
+pub returns-in-Ok-Same-clause-on : goal.returns-in-Ok-Same-clause-on
+returns-in-Ok-Same-clause-on g c = goes_then _ _ _ _ _ _ c.loop-number.invariant.on c.in-Ok-Same.ensures.on
+
+pub returns-in-Ok-Hole-clause-on : goal.returns-in-Ok-Hole-clause-on
+returns-in-Ok-Hole-clause-on g c = goes_then _ _ _ _ _ _ c.loop-number.invariant.on c.in-Ok-Hole.ensures.on
+
+pub returns-in-Err-clause-on : goal.returns-in-Err-clause-on
+returns-in-Err-clause-on g c = goes_then _ _ _ _ _ _ c.loop-number.invariant.on c.in-Err.ensures.on

@@ -86,3 +86,9 @@ returns-in-Ok-clause-began g c = c.in-Ok.ensures.began
 
 pub returns-clause-began : goal.returns-clause-began
 returns-clause-began g c = c.in-Err.ensures.began
+
+pub returns-in-Ok-clause-on : goal.returns-in-Ok-clause-on
+returns-in-Ok-clause-on g c = c.in-Ok.ensures.on
+
+pub returns-clause-on : goal.returns-clause-on
+returns-clause-on g c = c.in-Err.ensures.on

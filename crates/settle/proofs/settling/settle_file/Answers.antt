@@ -3,6 +3,7 @@ use Rattle.shared_disk.specs.State.{OnImages}
 use Rattle.settle.specs.Gathered.{spot_at}
 use Rattle.settle.specs.Rows.{PlaceComes}
 use Rattle.settle.proofs.RowLaws.{number-most, told-gathered, told-row-cut, told-row-ended, told-row-full, told-row-more, told-row-none}
+use Rattle.settle.specs.laws.PassLaws.{goes_same, goes_then}
 use Rattle.settle.proofs.settling.settle_file.Goals as goal
 
 pub loop-index-init : goal.loop-index-init
@@ -13,6 +14,7 @@ loop-index-init g c = record {
   few = omega arith;
   len = omega arith;
   volume = c.requires.volume;
+  on = goes_same _ _ _ _ refl refl;
   began = refl;
 }
 
@@ -46,6 +48,7 @@ loop-index-preserved g c = record {
       omega arith;
   len = let more = c.in-Ok-Some.ensures.len in let before = c.loop-index.invariant.len in omega arith;
   volume = c.in-Ok-Some.ensures.volume;
+  on = goes_then _ _ _ _ _ _ c.loop-index.invariant.on c.in-Ok-Some.ensures.on;
   began = c.in-Ok-Some.ensures.began ∙ c.loop-index.invariant.began;
 }
 
@@ -148,3 +151,12 @@ returns-in-Err-clause-began g c = c.in-Err.ensures.began ∙ c.loop-index.invari
 
 pub returns-clause-began : goal.returns-clause-began
 returns-clause-began g c = c.loop-index.invariant.began
+
+pub returns-in-Ok-None-clause-on : goal.returns-in-Ok-None-clause-on
+returns-in-Ok-None-clause-on g c = goes_then _ _ _ _ _ _ c.loop-index.invariant.on c.in-Ok-None.ensures.on
+
+pub returns-in-Err-clause-on : goal.returns-in-Err-clause-on
+returns-in-Err-clause-on g c = goes_then _ _ _ _ _ _ c.loop-index.invariant.on c.in-Err.ensures.on
+
+pub returns-clause-on : goal.returns-clause-on
+returns-clause-on g c = c.loop-index.invariant.on

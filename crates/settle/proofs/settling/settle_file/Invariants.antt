@@ -3,6 +3,7 @@ use Rattle.shared_disk.specs.State.{OnImages}
 use Rattle.indexmap.specs.IndexMap.{index_map_len}
 use Rattle.settle.specs.Gathered.{IsTable, spot_at}
 use Rattle.settle.specs.Rows.{IsRow}
+use Rattle.settle.specs.Passes.{GoesOn}
 use Rattle.settle.proofs.settling.settle_file.Given as goal
 
 -- the places below the index were settled
@@ -14,5 +15,6 @@ invariant-loop-index g l = record {
   few : l.live ≤ l.index;
   len : index_map_len l.found.spots ≤ index_map_len l.initial.found.spots + l.index;
   volume : g.L.Lone.volume l.lone ≡ l.fn.geometry;
+  on : GoesOn (g.L.Lone.counter l.initial.lone) (g.L.Lone.counter l.lone) (g.L.Lone.told l.initial.lone) (g.L.Lone.told l.lone);
   began : g.L.Lone.began l.lone ≡ g.L.Lone.began l.initial.lone;
 }

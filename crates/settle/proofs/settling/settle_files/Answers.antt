@@ -3,6 +3,7 @@ use Rattle.shared_disk.specs.State.{OnImages}
 use Rattle.settle.specs.Gathered.{spot_at}
 use Rattle.settle.specs.Rows.{IsRun}
 use Rattle.settle.proofs.RunLaws.{told-run-cut, told-run-gathered, told-run-more, told-run-none}
+use Rattle.settle.specs.laws.PassLaws.{goes_same, goes_then}
 use Rattle.settle.proofs.settling.settle_files.Goals as goal
 
 pub loop-file-init : goal.loop-file-init
@@ -12,6 +13,7 @@ loop-file-init g c = record {
   few = omega arith;
   len = let none = c.requires.none in omega arith;
   volume = c.requires.volume;
+  on = goes_same _ _ _ _ refl refl;
   began = refl;
 }
 
@@ -68,6 +70,7 @@ loop-file-preserved g c = record {
   few = let few = c.loop-file.invariant.few in let more = c.in-Ok.ensures.few in omega arith;
   len = let before = c.loop-file.invariant.len in let more = c.in-Ok.ensures.len in omega arith;
   volume = c.in-Ok.ensures.volume;
+  on = goes_then _ _ _ _ _ _ c.loop-file.invariant.on c.in-Ok.ensures.on;
   began = c.in-Ok.ensures.began ∙ c.loop-file.invariant.began;
 }
 
@@ -93,3 +96,9 @@ returns-in-Err-clause-began g c = c.in-Err.ensures.began ∙ c.loop-file.invaria
 
 pub returns-clause-began : goal.returns-clause-began
 returns-clause-began g c = c.loop-file.invariant.began
+
+pub returns-in-Err-clause-on : goal.returns-in-Err-clause-on
+returns-in-Err-clause-on g c = goes_then _ _ _ _ _ _ c.loop-file.invariant.on c.in-Err.ensures.on
+
+pub returns-clause-on : goal.returns-clause-on
+returns-clause-on g c = c.loop-file.invariant.on

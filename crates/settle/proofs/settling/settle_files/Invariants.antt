@@ -3,6 +3,7 @@ use Rattle.shared_disk.specs.State.{OnImages}
 use Rattle.indexmap.specs.IndexMap.{index_map_len}
 use Rattle.settle.specs.Gathered.{IsTable, spot_at}
 use Rattle.settle.specs.Rows.{IsRun}
+use Rattle.settle.specs.Passes.{GoesOn}
 use Rattle.settle.proofs.settling.settle_files.Given as goal
 
 -- the files below the number were settled
@@ -14,5 +15,6 @@ invariant-loop-file g l = record {
   few : l.live ≤ 16128 * l.file;
   len : index_map_len l.found.spots ≤ 16128 * l.file;
   volume : g.L.Lone.volume l.lone ≡ l.fn.geometry;
+  on : GoesOn (g.L.Lone.counter l.initial.lone) (g.L.Lone.counter l.lone) (g.L.Lone.told l.initial.lone) (g.L.Lone.told l.lone);
   began : g.L.Lone.began l.lone ≡ g.L.Lone.began l.initial.lone;
 }

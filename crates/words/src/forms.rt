@@ -1,10 +1,9 @@
-// The words of the command line.
-ghost use Rattle.std.specs.Prelude.{◌≡◌, ◌<◌, ◌≤◌, ◌∷◌, [], IfOk, IfSome, filter_map, is_some, map, string_bytes};
+// The forms that words may have.
+ghost use Rattle.std.specs.Prelude.{◌≡◌, ◌<◌, ◌≤◌, ◌∷◌, [], IfSome, is_some, map, string_bytes};
 ghost use Rattle.std.specs.List.{list_all};
-ghost use Rattle.jobs.specs.Words.{HasRounds, digit_of, generation_of, host_of, hosts_of, is_plain, is_schedule, job_named, job_of, rounds_of};
+ghost use Rattle.words.specs.Words.{HasRounds, digit_of, generation_of, host_of, is_plain, is_schedule, job_named, job_of, rounds_of};
 
-use std::alloc::Global;
-use vol_base::{HostNo, NoMemory};
+use vol_base::HostNo;
 
 /// A job of the program.
 #[derive(Clone, Copy, Debug, PartialEq, Eq)]
@@ -35,26 +34,6 @@ pub fn job_of(words: &[String]) -> Option<Job>
         [volume, name, ..] if is_plain(volume.as_str()) => job_named(name.as_str(), &words[2..]),
         _ => None,
     }
-}
-
-/// The hosts of a schedule, in the order of their words behind the name of the job.
-pub fn hosts_of(alloc: Global, words: &[String]) -> Result<Vec<HostNo>, NoMemory>
-    ensures { IfOk result (λ hosts. hosts.items ≡ hosts_of (map string_bytes words.now)) }
-{
-    match words {
-        [_, _, ..] => hosts_in(alloc, &words[2..]),
-        _ => Ok(Vec::new(alloc)),
-    }
-}
-
-fn hosts_in(alloc: Global, words: &[String]) -> Result<Vec<HostNo>, NoMemory>
-    ensures { IfOk result (λ hosts. hosts.items ≡ filter_map (λ word. host_of (string_bytes word)) words.now) }
-{
-    let hosts = words
-        .iter()
-        .filter_map(|word| host_of(word.as_str()))
-        .collect(alloc)?;
-    Ok(hosts)
 }
 
 fn is_plain(word: &str) -> bool
@@ -145,8 +124,8 @@ fn are_hosts(words: &[String]) -> bool
     words.iter().all(|word| host_of(word.as_str()).is_some())
 }
 
-// The host that a word names.
-fn host_of(word: &str) -> Option<HostNo>
+/// The host that a word names.
+pub(crate) fn host_of(word: &str) -> Option<HostNo>
     ensures { result ≡ host_of word.now }
 {
     match word.as_bytes() {

@@ -3,8 +3,8 @@ use Rattle.std.specs.Prelude.{◌==◌, ◌&&◌, ◌+◌, ◌-◌, ◌*◌, ◌
 use Rattle.std.specs.List.{list_all}
 use Rattle.std.specs.Option.{option_map}
 use Rattle.std.specs.Str.{bytes_eq}
-use Rattle.jobs.specs.declared.words.Job.{Job}
-use Rattle.jobs.specs.declared.words.Job.TheVariants.{Sim, Run, Check, Settle, Gen}
+use Rattle.words.specs.declared.forms.Job.{Job}
+use Rattle.words.specs.declared.forms.Job.TheVariants.{Sim, Run, Check, Settle, Gen}
 
 -- a word is not empty, and does not begin with `-`
 abbrev pub is_plain : List ℕ → Bool

@@ -1,6 +1,6 @@
 use Rattle.std.proofs.Common.{string_bytes, Global}
-use Rattle.jobs.proofs.WordLaws.{is_schedule_short}
-use Rattle.jobs.proofs.words.is_schedule.Goals as goal
+use Rattle.words.proofs.WordLaws.{is_schedule_short}
+use Rattle.words.proofs.forms.is_schedule.Goals as goal
 
 pub returns-then-words-le-MOST_HOSTS : goal.returns-then-words-le-MOST_HOSTS
 returns-then-words-le-MOST_HOSTS c =

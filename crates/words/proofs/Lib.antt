@@ -1,0 +1,3 @@
+mod FormLaws
+mod LineLaws
+mod WordLaws
